@@ -87,6 +87,11 @@ or-comm true false = refl
 or-comm false true = refl
 or-comm false false = refl
 
+pub or-assoc : (a b c : Bool) → ((a or b) or c) ≡ (a or (b or c))
+unfolding _or_
+or-assoc true b c = refl
+or-assoc false b c = refl
+
 -- ---- the connectives' laws as conditional equations, for `simp` and `search`
 pub and-t : (a b : Bool) → a ≡ true → (a and b) ≡ b
 unfolding _and_
@@ -185,4 +190,4 @@ unfolding _or_ _imp_ non
 imp-code true b = refl
 imp-code false b = refl
 
-pub ruleset codes = (and-code, or-code, non-code, imp-code)
+pub ruleset codes = (and-code, or-code, non-code)

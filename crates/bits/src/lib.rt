@@ -1,0 +1,1 @@
+// Bits of a word: definitions and laws over any width. No code.

@@ -1,0 +1,54 @@
+-- Which ECUs a coverage has, when two coverages overlap, and when one contains another.
+-- Document 01, "Numbers that stand for things": "Coverage: the whole vehicle, or a set of ECUs, which may be empty";
+-- and the last paragraph of "A sound state". Every definition goes by ECU numbers 0..=255.
+use Prim.Native.Nat.{ℕ, zero, suc, _+_, _/_, _%_, _^_}
+use mathlib.Core.Bool.{Bool, true, false, cond}
+use mathlib.Core.List.{List, [], _∷_}
+use lib.Dec.{eqb}
+use lib.Bits.{bitOr}
+use Rattle.bits.specs.Bits.{bitAt}
+use Rattle.lists.specs.Tests.{_and_, _or_, _imp_, non}
+use Rattle.lists.specs.Below.{anyBelow, allBelow}
+use Rattle.coverage.specs.declared.LockCoverage.{LockCoverage}
+
+abbrev pub noCoverage : LockCoverage
+noCoverage = record { w0 = 0; w1 = 0; w2 = 0; w3 = 0; whole = false }
+
+abbrev pub wholeVehicle : LockCoverage
+wholeVehicle = record { w0 = 0; w1 = 0; w2 = 0; w3 = 0; whole = true }
+
+-- the word that has the bits of the ECUs 64 i .. 64 i + 63
+unfoldable pub wordOf : LockCoverage → ℕ → ℕ
+wordOf c zero = c .w0
+wordOf c (suc zero) = c .w1
+wordOf c (suc (suc zero)) = c .w2
+wordOf c (suc (suc (suc i))) = c .w3
+
+-- ECU e is in the set
+unfoldable pub inSet : LockCoverage → ℕ → Bool
+inSet c e = bitAt (wordOf c (e / 64)) (e % 64)
+
+-- ECU e is covered: by the whole vehicle, or by the set
+unfoldable pub covers : LockCoverage → ℕ → Bool
+covers c e = c .whole or inSet c e
+
+-- "Whole-vehicle coverage overlaps everything, the empty set included"; two sets overlap where some ECU is in both
+unfoldable pub overlap : LockCoverage → LockCoverage → Bool
+overlap a b = a .whole or b .whole or anyBelow 256 (λ e. inSet a e and inSet b e)
+
+-- b lies within a: the whole vehicle "contains everything. A set never contains the whole vehicle"; a set contains a set
+-- whose ECUs are all in it
+unfoldable pub within : LockCoverage → LockCoverage → Bool
+within b a = a .whole or (non (b .whole) and allBelow 256 (λ e. inSet b e imp inSet a e))
+
+-- ---- a set from a list of ECU numbers
+-- ECU e joins the set: its bit is set in its word
+abbrev pub bitIn : ℕ → ℕ → ℕ → ℕ
+bitIn w i e = cond (eqb (e / 64) i) (bitOr w (2 ^ (e % 64))) w
+
+abbrev pub withEcu : LockCoverage → ℕ → LockCoverage
+withEcu c e = record { w0 = bitIn (c .w0) 0 e; w1 = bitIn (c .w1) 1 e; w2 = bitIn (c .w2) 2 e; w3 = bitIn (c .w3) 3 e; whole = c .whole }
+
+abbrev pub withEcus : LockCoverage → List ℕ → LockCoverage
+withEcus c [] = c
+withEcus c (e ∷ es) = withEcus (withEcu c e) es
