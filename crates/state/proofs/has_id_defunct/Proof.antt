@@ -1,0 +1,19 @@
+use Rattle.state.specs.Locks.{hasIdD}
+use borrow.Author.Needs.{needs}
+use Rattle.state.proofs.has_id_defunct.Statement.{statement}
+use Rattle.state.proofs.has_id_defunct.Tie as tie
+use Rattle.state.proofs.has_id_defunct.Reads as reads
+use Rattle.state.proofs.has_id_defunct.Lts as lts
+use Rattle.ids.proofs.same.Reads as same-reads
+
+-- src/lib.rt:175:5
+same-requires : tie.Need-same-requires
+same-requires c κs = search needs
+
+-- src/lib.rt:172:1
+returns : tie.Need-returns
+unfolding hasIdD
+returns c = search needs
+
+pub has-id-defunct-spec : {M : Type 1} → statement M
+has-id-defunct-spec = tie.close (tie.spec same-requires returns)

@@ -1,0 +1,2 @@
+pub mod Locks
+pub mod Model
