@@ -3,7 +3,7 @@ use mathlib.Core.Bool.{Bool, true, false, cond}
 use Prim.Native.Nat.{ℕ, _+_, _*_}
 use lib.Dec.{eqb}
 use Rattle.ids.specs.declared.LockId.{LockId}
-use Rattle.ids.specs.Order.{key, sameId, noId}
+use Rattle.ids.specs.Order.{key, noId}
 use Rattle.coverage.specs.declared.LockCoverage.{LockCoverage}
 use Rattle.coverage.specs.Coverage.{covers, noCoverage, wholeVehicle}
 use Rattle.state.specs.declared.ScopeKey.{ScopeKey}
@@ -46,10 +46,10 @@ abbrev pub dkey : DefunctLock → ℕ
 dkey d = key (d .lock .id)
 
 unfoldable pub hasId : LockId → ActiveLock → Bool
-hasId i a = sameId (a .lock .id) i
+hasId i a = eqb (akey a) (key i)
 
 unfoldable pub hasIdD : LockId → DefunctLock → Bool
-hasIdD i d = sameId (d .lock .id) i
+hasIdD i d = eqb (dkey d) (key i)
 
 -- ---- "unused places are blank": every part zero
 abbrev pub blankLock : Lock

@@ -1,3 +1,4 @@
+use Rattle.ids.specs.Order.{sameId}
 use Rattle.state.specs.Locks.{hasId}
 use borrow.Author.Needs.{needs}
 use Rattle.state.proofs.has_id.Statement.{statement}
@@ -12,7 +13,7 @@ same-requires c κs = search needs
 
 -- src/lib.rt:166:1
 returns : tie.Need-returns
-unfolding hasId
+unfolding hasId sameId
 returns c = search needs
 
 pub has-id-spec : {M : Type 1} → statement M

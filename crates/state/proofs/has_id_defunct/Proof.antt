@@ -1,3 +1,4 @@
+use Rattle.ids.specs.Order.{sameId}
 use Rattle.state.specs.Locks.{hasIdD}
 use borrow.Author.Needs.{needs}
 use Rattle.state.proofs.has_id_defunct.Statement.{statement}
@@ -12,7 +13,7 @@ same-requires c κs = search needs
 
 -- src/lib.rt:172:1
 returns : tie.Need-returns
-unfolding hasIdD
+unfolding hasIdD sameId
 returns c = search needs
 
 pub has-id-defunct-spec : {M : Type 1} → statement M
