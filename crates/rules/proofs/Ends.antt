@@ -14,7 +14,7 @@ use borrow.Author.Tests.{eqb-true}
 use Rattle.lists.specs.Tests.{_and_, non, Yes, No}
 use Rattle.lists.proofs.Tests.{against, →no, non-yes, yes-non, and-i, and-r, same-test}
 use Rattle.lists.specs.Lists.{all, any, find, Mem, Fresh}
-use Rattle.lists.proofs.Lists.{all→, →all, any→, →any, find→, find-none→, find-miss, pigeon}
+use Rattle.lists.proofs.Lists.{all→, →all, any→, →any, find→, find-none→, find-cases, find-miss, pigeon}
 use Rattle.state.specs.Model.{Model}
 use Rattle.ids.specs.Order.{key}
 use Rattle.state.specs.Locks.{dkey}
@@ -124,6 +124,15 @@ pub ends-of-rule9 : (m : Model) → rule9 m ≡ true → (d : DefunctLock) → M
 unfolding rule9
 ends-of-rule9 m u d i =
     meets→ends (length (m .defunct)) (m .defunct) [] (dkey d) (all→ (λ d. meetsNone (length (m .defunct)) (m .defunct) [] (dkey d)) u i)
+
+-- and from any id at all
+pub ends-anywhere : (m : Model) → rule9 m ≡ true → (k : ℕ) → Ends (m .defunct) k
+ends-anywhere m u k = elim (find-cases (λ d. eqb (dkey d) k) (m .defunct)) [
+  | inl w ↦
+      let v = find→ (λ d. eqb (dkey d) k) (m .defunct) (w .1) in
+      subst (Ends (m .defunct)) (eqb-true (dkey (w .0)) k (v .1)) (ends-of-rule9 m u (w .0) (v .0))
+  | inr e ↦ done e
+]
 
 pub rule9-of-ends : (m : Model) → ((d : DefunctLock) → Mem d (m .defunct) → Ends (m .defunct) (dkey d)) → rule9 m ≡ true
 unfolding rule9

@@ -7,3 +7,4 @@ pub mod Two
 pub mod Family
 pub mod Lowest
 pub mod Tidy
+pub mod Sound
