@@ -1,0 +1,94 @@
+-- The answers, check by check: each law has what the checks before it found.
+-- Assumes nothing.
+use mathlib.Core.Path.{_≡_, refl, sym, ap, _∙_}
+use mathlib.Core.Bool.{Bool, true, false}
+use mathlib.Core.List.{List, [], _∷_}
+use Prim.Native.Nat.{ℕ, _+_, _-_, _*_, _/_, _%_, _≤_, _<_}
+use native.Mathlib.Omega.{arith}
+use lib.Dec.{ltb}
+use lib.ListN.{length, getD, take, drop}
+use lib.Seq.{getD-take, getD-drop}
+use borrow.Author.Tests.{lt-ltb, le-ltb, le-leb, lt-leb}
+use Rattle.lists.specs.Tests.{Yes}
+use Rattle.names.specs.declared.Named.the-variants.{BadTable, NameTooLong, NamesFull, Known, Learned}
+use Rattle.names.specs.declared.NameAt.the-variants.{Refused, Nothing, Found}
+use Rattle.names.specs.Bytes.{kept, known, placeOf}
+use Rattle.names.specs.Table.{countOf, entryStart, entryAt, lengthOf, nameOf, namesFrom, namesOf, rightTable, put, learned}
+use Rattle.names.specs.Answers.{done, numberOf, placeAt, nameAt}
+use Rattle.names.proofs.Bytes.{kept-length}
+use Rattle.names.proofs.Lists.{known-place, names-length}
+use Rattle.names.proofs.Right.{right-size, right-count, right-short}
+
+-- ---- a name's number
+module _ (f : Bool) (t name : List ℕ) (r : Bool) (u : r ≡ rightTable f t) where
+  pub bad-table : r ≡ false → done BadTable t ≡ numberOf f t name
+  unfolding numberOf
+  bad-table g = rw (← u, g)
+
+  module _ (g : r ≡ true) where
+    pub too-long : 64 < length name → done NameTooLong t ≡ numberOf f t name
+    unfolding numberOf
+    too-long h = rw (← u, g, lt-leb (length name) 64 h)
+
+    module _ (h : length name ≤ 64) (n p : ℕ) (q : n ≡ countOf t) (v : p ≡ 0 + placeOf (kept f name) (namesFrom t 0 (n - 0))) where
+      place : p ≡ placeOf (kept f name) (namesOf t)
+      unfolding namesOf
+      place =
+          let a : n - 0 ≡ n = omega arith in
+          let w : p ≡ placeOf (kept f name) (namesFrom t 0 n) = omega (arith, rw a at v) in
+          w ∙ ap (λ (k : ℕ). placeOf (kept f name) (namesFrom t 0 k)) q
+
+      is-known : known (kept f name) (namesOf t) ≡ ltb p n
+      unfolding namesOf
+      is-known =
+          known-place (kept f name) (namesFrom t 0 (countOf t))
+          ∙ ap (ltb (placeOf (kept f name) (namesFrom t 0 (countOf t)))) (names-length t 0 (countOf t) ∙ sym q)
+          ∙ ap (λ (k : ℕ). ltb k n) (sym place)
+
+      pub there : p < n → done (Known p) t ≡ numberOf f t name
+      unfolding numberOf
+      there k = rw (← u, g, le-leb (length name) 64 h, is-known, lt-ltb p n k, ← place)
+
+      pub full : n ≤ p → 256 ≤ n → done NamesFull t ≡ numberOf f t name
+      unfolding numberOf
+      full k l = rw (← u, g, le-leb (length name) 64 h, is-known, le-ltb p n k, ← q, le-ltb n 256 l)
+
+      pub taught : (x : List ℕ) → n ≤ p → n < 256 → x ≡ put (put t (entryStart n) (length name ∷ kept f name)) 0 ((n + 1) % 256 ∷ (n + 1) / 256 ∷ []) → done (Learned n) x ≡ numberOf f t name
+      unfolding numberOf learned
+      taught x k l e = rw (← u, g, le-leb (length name) 64 h, is-known, le-ltb p n k, ← q, lt-ltb n 256 l, kept-length f name, e)
+
+-- ---- a number's name
+module _ (f : Bool) (t : List ℕ) (i : ℕ) (r : Bool) (u : r ≡ rightTable f t) where
+  pub no-place : r ≡ false → Refused ≡ placeAt f t i
+  unfolding placeAt
+  no-place g = rw (← u, g)
+
+  pub no-name : r ≡ false → [] ≡ nameAt f t i
+  unfolding nameAt
+  no-name g = rw (← u, g)
+
+  module _ (g : r ≡ true) where
+    pub size : length t ≡ 16642
+    size = right-size f t (sym u ∙ g)
+
+    module _ (n : ℕ) (q : n ≡ countOf t) where
+      pub count : n ≤ 256
+      count = omega (arith, right-count f t (sym u ∙ g))
+
+      pub past-place : n ≤ i → Nothing ≡ placeAt f t i
+      unfolding placeAt
+      past-place h = rw (← u, g, ← q, le-ltb i n h)
+
+      pub past-name : n ≤ i → [] ≡ nameAt f t i
+      unfolding nameAt
+      past-name h = rw (← u, g, ← q, le-ltb i n h)
+
+      pub found : i < n → Found (entryStart i + 1) (getD t (entryStart i) 0) ≡ placeAt f t i
+      unfolding placeAt entryAt
+      found h =
+          let a : entryStart i + 0 ≡ entryStart i = omega arith in
+          rw (← u, g, ← q, lt-ltb i n h, getD-take 65 (drop (entryStart i) t) 0 0 (omega arith), getD-drop (entryStart i) t 0 0, a)
+
+      pub named : (e x : List ℕ) → i < n → e ≡ entryAt t i → x ≡ nameOf e → x ≡ nameAt f t i
+      unfolding nameAt
+      named e x h p w = rw (← u, g, ← q, lt-ltb i n h, ← p) w

@@ -1,0 +1,6 @@
+pub mod Bytes
+pub mod Entries
+pub mod Lists
+pub mod Right
+pub mod Puts
+pub mod Chain

@@ -1,0 +1,73 @@
+use mathlib.Core.Path.{_≡_}
+use Prim.Native.Nat.{ℕ, _≤_, _<_, _+_, _-_}
+use native.Mathlib.Omega.{arith}
+use Rattle.names.specs.Bytes.{kept, placeOf}
+use Rattle.names.specs.Table.{namesFrom}
+use Rattle.names.proofs.Entries.{entry-long, short-at}
+use Rattle.names.proofs.Lists.{found-there, not-there, nowhere}
+use borrow.Author.Needs.{needs}
+use Rattle.names.proofs.place_from.Statement.{statement}
+use Rattle.names.proofs.place_from.Tie as tie
+use Rattle.names.proofs.place_from.Reads as reads
+use Rattle.names.proofs.place_from.Lts as lts
+use Rattle.names.proofs.entry_of.Reads as entry-of-reads
+use Rattle.names.proofs.name_of.Reads as name-of-reads
+use Rattle.names.proofs.same_name.Reads as same-name-reads
+
+abbrev Inv-loop : tie.InvT-loop
+Inv-loop table name folding from n i₀ i = (i ≤ n) × (i + placeOf (kept folding name) (namesFrom table i (n - i)) ≡ from + placeOf (kept folding name) (namesFrom table from (n - from)))
+
+abbrev μ-loop : tie.MeasureT-loop
+μ-loop table name folding from n i₀ i = n - i
+
+-- src/lib.rt:169:5
+loop-holds : tie.Need-loop-holds Inv-loop μ-loop
+loop-holds c = search needs
+
+-- src/lib.rt:170:30
+entry-of-requires : tie.Need-entry-of-requires Inv-loop μ-loop
+entry-of-requires c κs = search needs
+
+-- src/lib.rt:170:22
+name-of-requires : tie.Need-name-of-requires Inv-loop μ-loop
+name-of-requires c κs = (entry-long _ _ (c .before .before .loop .i) (c .before .before .before .before .before .pre .0) (omega arith) (c .entry-of .ensures), search (short-at, needs))
+
+-- src/lib.rt:170:12
+same-name-requires : tie.Need-same-name-requires Inv-loop μ-loop
+same-name-requires c κs = search needs
+
+-- src/lib.rt:171:13
+returns : tie.Need-returns Inv-loop μ-loop
+returns c = search (found-there, needs)
+
+-- src/lib.rt:173:9
+add-i : tie.Need-add-i Inv-loop μ-loop
+add-i c = search needs
+
+-- src/lib.rt:169:5
+loop-less : tie.Need-loop-less Inv-loop μ-loop
+loop-less c = search needs
+
+-- src/lib.rt:169:5
+loop-again : tie.Need-loop-again Inv-loop μ-loop
+loop-again c = (search needs, search (not-there, needs))
+
+-- src/lib.rt:164:1
+returns-2 : tie.Need-returns-2 Inv-loop μ-loop
+returns-2 c = search (nowhere, needs)
+
+pub place-from-spec : {M : Type 1} → statement M
+place-from-spec =
+    tie.close
+    (tie.spec
+    Inv-loop
+    μ-loop
+    loop-holds
+    entry-of-requires
+    name-of-requires
+    same-name-requires
+    returns
+    add-i
+    loop-less
+    loop-again
+    returns-2)

@@ -1,0 +1,55 @@
+-- The answers. Document 01: "A known name gives its number, a new one the next number"; "27, 22, 23: BadTable, NameTooLong,
+-- NamesFull (added; in this order)"; a known name gives its number even in a full table.
+use Prim.Native.Nat.{ℕ, _+_}
+use mathlib.Core.Bool.{Bool, cond}
+use mathlib.Core.List.{List, []}
+use lib.Dec.{leb, ltb}
+use lib.ListN.{length}
+use Rattle.names.specs.declared.Named.{Named}
+use Rattle.names.specs.declared.Named.the-variants.{BadTable, NameTooLong, NamesFull, Known, Learned}
+use Rattle.names.specs.declared.NameAt.{NameAt}
+use Rattle.names.specs.declared.NameAt.the-variants.{Refused, Nothing, Found}
+use Rattle.names.specs.Bytes.{kept, known, placeOf}
+use Rattle.names.specs.Table.{countOf, entryStart, entryAt, lengthOf, nameOf, namesOf, rightTable, learned}
+
+-- the answer, and the buffer as the call leaves it
+pub record Done : Type 0 where
+  pub told : Named
+  pub table : List ℕ
+
+abbrev pub done : Named → List ℕ → Done
+done n t = record { told = n; table = t }
+
+-- a name's number: 27, 22, a known name's own, 23, the next
+unfoldable pub numberOf : Bool → List ℕ → List ℕ → Done
+numberOf folding t name =
+    cond (rightTable folding t)
+    (cond (leb (length name) 64)
+    (cond (known (kept folding name) (namesOf t))
+    (done (Known (placeOf (kept folding name) (namesOf t))) t)
+    (cond (ltb (countOf t) 256)
+    (done (Learned (countOf t)) (learned t (kept folding name)))
+    (done NamesFull t)))
+    (done NameTooLong t))
+    (done BadTable t)
+
+-- document 01's number of each answer; 0 where it is none of the refusals
+abbrev pub paperOf : Named → ℕ
+paperOf BadTable = 27
+paperOf NameTooLong = 22
+paperOf NamesFull = 23
+paperOf (Known n) = 0
+paperOf (Learned n) = 0
+
+-- where the name of a number stands in the buffer
+unfoldable pub placeAt : Bool → List ℕ → ℕ → NameAt
+placeAt folding t number =
+    cond (rightTable folding t)
+    (cond (ltb number (countOf t))
+    (Found (entryStart number + 1) (lengthOf (entryAt t number)))
+    Nothing)
+    Refused
+
+-- the name itself; nothing where there is none
+unfoldable pub nameAt : Bool → List ℕ → ℕ → List ℕ
+nameAt folding t number = cond (rightTable folding t) (cond (ltb number (countOf t)) (nameOf (entryAt t number)) []) []
