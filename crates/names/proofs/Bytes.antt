@@ -1,17 +1,16 @@
 -- Laws of names as bytes: what folding does, when two names are the same, a name's place in a list of names.
 -- Assumes nothing.
 use mathlib.Core.Path.{_≡_, refl, sym, ap, ap₂, _∙_, subst}
-use mathlib.Core.Bool.{Bool, true, false, cond, _&&_, false≢true}
-use mathlib.Core.List.{List, [], _∷_, _++_, map}
-use Prim.Native.Nat.{ℕ, zero, suc, _+_, _≤_, _<_}
+use mathlib.Core.Bool.{Bool, true, false, _&&_, false≢true}
+use mathlib.Core.List.{List, [], _∷_, map}
+use Prim.Native.Nat.{ℕ, _+_, _≤_, _<_}
 use native.Mathlib.Omega.{arith}
 use lib.Dec.{eqb, leb}
 use lib.ListN.{length, getD, length-map, List·getD-map}
 use lib.Seq.{ext-getD}
-use borrow.Author.Tests.{eq-eqb, ne-eqb, eqb-true, le-leb, lt-leb}
-use Rattle.lists.specs.Tests.{_and_, non, Yes, No}
-use Rattle.lists.specs.Lists.{all}
-use Rattle.lists.proofs.Tests.{→no, and-l, and-r, and-i, and-t, and-f, and-code, non-t, non-f}
+use borrow.Author.Tests.{eq-eqb, ne-eqb, eqb-true, le-leb, lt-leb, leb-true}
+use Rattle.lists.specs.Tests.{_and_, _imp_, non, Yes, No}
+use Rattle.lists.proofs.Tests.{→no, by, and-l, and-r, and-i, and-f, and-code, non-t, non-f, non-yes, yes-non}
 use Rattle.lists.proofs.Places.{rest-yes, rest-no}
 use Rattle.names.specs.Bytes.{isUpper, fold1, keep1, kept, folded, sameBytes}
 use Rattle.names.specs.Table.{zeros}
@@ -107,3 +106,46 @@ module _ (b : List ℕ) (i : ℕ) where
 pub small : (b : ℕ) → (leb 0x41 b && leb b 0x5A) ≡ false → isUpper b ≡ false
 unfolding isUpper
 small b e = sym (and-code _ _) ∙ e
+
+-- ---- what folding leaves
+upper-from : (b : ℕ) → Yes (isUpper b) → 0x41 ≤ b
+unfolding isUpper
+upper-from b y = leb-true 0x41 b (and-l (leb 0x41 b) (leb b 0x5A) y)
+
+upper-to : (b : ℕ) → Yes (isUpper b) → b ≤ 0x5A
+unfolding isUpper
+upper-to b y = leb-true b 0x5A (and-r (leb 0x41 b) (leb b 0x5A) y)
+
+-- a letter is folded to one byte from either case
+pub either-case : (b : ℕ) → Yes (isUpper b) → fold1 (b + 0x20) ≡ fold1 b
+either-case b y = sym (fold-high (b + 0x20) (omega (arith, upper-from b y))) ∙ fold-upper b (upper-from b y) (upper-to b y)
+
+fold-other : (b : ℕ) → No (isUpper b) → fold1 b ≡ b
+unfolding fold1
+fold-other b n = rw n
+
+fold-small : (b : ℕ) → No (isUpper (fold1 b))
+fold-small b = by (isUpper b) (No (isUpper (fold1 b)))
+    (λ y. →no (isUpper (fold1 b)) (λ z. absurd (omega (arith, upper-from b y, upper-to (fold1 b) z, fold-upper b (upper-from b y) (upper-to b y)))))
+    (λ n. ap isUpper (fold-other b n) ∙ n)
+
+all-small : (name : List ℕ) → Yes (folded (kept true name))
+unfolding folded kept keep1
+all-small [] = refl
+all-small (x ∷ xs) = and-i (non (isUpper (fold1 x))) (folded (kept true xs)) (yes-non (isUpper (fold1 x)) (fold-small x)) (all-small xs)
+
+pub kept-folded : (f : Bool) (name : List ℕ) → Yes (f imp folded (kept f name))
+unfolding _imp_
+kept-folded true name = all-small name
+kept-folded false name = refl
+
+-- a name that is folded is kept as it is, so that folding twice is folding once
+pub folded-kept : (name : List ℕ) → Yes (folded name) → kept true name ≡ name
+unfolding folded kept keep1
+folded-kept [] y = refl
+folded-kept (x ∷ xs) y =
+    ap₂ {C = List ℕ} (λ h l. h ∷ l) (fold-other x (non-yes (isUpper x) (and-l (non (isUpper x)) (folded xs) y))) (folded-kept xs (and-r (non (isUpper x)) (folded xs) y))
+
+pub kept-kept : (f : Bool) (name : List ℕ) → kept f (kept f name) ≡ kept f name
+kept-kept true name = folded-kept (kept true name) (all-small name)
+kept-kept false name = kept-plain (kept false name)

@@ -1,23 +1,21 @@
 -- The answers, check by check: each law has what the checks before it found.
 -- Assumes nothing.
-use mathlib.Core.Path.{_≡_, refl, sym, ap, _∙_}
+use mathlib.Core.Path.{_≡_, sym, ap, _∙_}
 use mathlib.Core.Bool.{Bool, true, false}
 use mathlib.Core.List.{List, [], _∷_}
-use Prim.Native.Nat.{ℕ, _+_, _-_, _*_, _/_, _%_, _≤_, _<_}
+use Prim.Native.Nat.{ℕ, _+_, _-_, _/_, _%_, _≤_, _<_}
 use native.Mathlib.Omega.{arith}
 use lib.Dec.{ltb}
-use lib.ListN.{length, getD, take, drop}
+use lib.ListN.{length, getD, drop}
 use lib.Seq.{getD-take, getD-drop}
 use borrow.Author.Tests.{lt-ltb, le-ltb, le-leb, lt-leb}
-use Rattle.lists.specs.Tests.{Yes}
 use Rattle.names.specs.declared.Named.the-variants.{BadTable, NameTooLong, NamesFull, Known, Learned}
-use Rattle.names.specs.declared.NameAt.the-variants.{Refused, Nothing, Found}
+use Rattle.names.specs.declared.NameAt.the-variants.{BadTable as NoTable, Nothing, Found}
 use Rattle.names.specs.Bytes.{kept, known, placeOf}
-use Rattle.names.specs.Table.{countOf, entryStart, entryAt, lengthOf, nameOf, namesFrom, namesOf, rightTable, put, learned}
+use Rattle.names.specs.Table.{countOf, entryStart, entryAt, nameOf, namesFrom, namesOf, rightTable, put, learned}
 use Rattle.names.specs.Answers.{done, numberOf, placeAt, nameAt}
 use Rattle.names.proofs.Bytes.{kept-length}
 use Rattle.names.proofs.Lists.{known-place, names-length}
-use Rattle.names.proofs.Right.{right-size, right-count, right-short}
 
 -- ---- a name's number
 module _ (f : Bool) (t name : List ℕ) (r : Bool) (u : r ≡ rightTable f t) where
@@ -59,7 +57,7 @@ module _ (f : Bool) (t name : List ℕ) (r : Bool) (u : r ≡ rightTable f t) wh
 
 -- ---- a number's name
 module _ (f : Bool) (t : List ℕ) (i : ℕ) (r : Bool) (u : r ≡ rightTable f t) where
-  pub no-place : r ≡ false → Refused ≡ placeAt f t i
+  pub no-place : r ≡ false → NoTable ≡ placeAt f t i
   unfolding placeAt
   no-place g = rw (← u, g)
 
@@ -68,13 +66,7 @@ module _ (f : Bool) (t : List ℕ) (i : ℕ) (r : Bool) (u : r ≡ rightTable f 
   no-name g = rw (← u, g)
 
   module _ (g : r ≡ true) where
-    pub size : length t ≡ 16642
-    size = right-size f t (sym u ∙ g)
-
     module _ (n : ℕ) (q : n ≡ countOf t) where
-      pub count : n ≤ 256
-      count = omega (arith, right-count f t (sym u ∙ g))
-
       pub past-place : n ≤ i → Nothing ≡ placeAt f t i
       unfolding placeAt
       past-place h = rw (← u, g, ← q, le-ltb i n h)

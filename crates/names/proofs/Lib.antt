@@ -4,3 +4,5 @@ pub mod Lists
 pub mod Right
 pub mod Puts
 pub mod Chain
+pub mod Learning
+pub mod Theorems

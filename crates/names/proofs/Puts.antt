@@ -3,11 +3,11 @@
 use mathlib.Core.Path.{_≡_, refl, sym, ap, _∙_, subst}
 use mathlib.Core.Bool.{Bool}
 use mathlib.Core.List.{List, [], _∷_, _++_, append-assoc}
-use Prim.Native.Nat.{ℕ, zero, suc, _+_, _-_, _*_, _/_, _%_, _≤_, _<_}
+use Prim.Native.Nat.{ℕ, suc, _+_, _-_, _≤_, _<_}
 use native.Mathlib.Numerals.{add-one}
 use native.Mathlib.Omega.{arith}
-use lib.ListN.{length, getD, set, take, drop, length-append, length-take, length-drop, length-set}
-use lib.Seq.{append-snoc, take-length, take-suc-set, drop-set-lt, paste, paste-suc, length-paste, length-take-le}
+use lib.ListN.{length, getD, set, take, drop, take-append-drop, length-append, length-take, length-drop}
+use lib.Seq.{append-snoc, take-length, take-suc-set, take-append-le, drop-append-le, drop-set-lt, drop-drop, drop-at, paste, paste-suc, length-take-le}
 use Rattle.names.specs.Bytes.{keep1, kept}
 use Rattle.names.specs.Table.{entryStart, put}
 use Rattle.names.proofs.Bytes.{kept-length, kept-at}
@@ -44,3 +44,34 @@ all-stored t table name f n i x y l h k s p q e =
     let m : i ≡ length (kept f name) = omega (arith, kept-length f name) in
     put-two table x y (omega arith)
     ∙ ap (λ (u : List ℕ). put u 0 (x ∷ y ∷ [])) (e ∙ ap (paste (set t (entryStart n) (length name)) (entryStart n + 1) (kept f name)) m ∙ put-entry t (kept f name) (entryStart n) (length name) (omega arith))
+
+-- ---- which parts keep their bytes
+module _ (t b : List ℕ) (s : ℕ) (h : s ≤ length t) where
+  -- of a list that begins as t does up to s
+  before-it : (r : List ℕ) (a k : ℕ) → a + k ≤ s → take k (drop a (take s t ++ r)) ≡ take k (drop a (take s t))
+  before-it r a k g =
+      let l : length (take s t) ≡ s = length-take-le s t h in
+      let e : k ≤ length (drop a (take s t)) = simp length-drop (omega arith) in
+      rw (drop-append-le a (take s t) r (omega arith), take-append-le k (drop a (take s t)) r e)
+
+  -- a part that ends before the bytes put in
+  pub part-before : (a k : ℕ) → a + k ≤ s → take k (drop a (put t s b)) ≡ take k (drop a t)
+  unfolding put
+  part-before a k g =
+      rw (append-assoc (take s t) b (drop (s + length b) t))
+      (before-it (b ++ drop (s + length b) t) a k g ∙ sym (ap (λ (l : List ℕ). take k (drop a l)) (sym (take-append-drop s t)) ∙ before-it (drop s t) a k g))
+
+  -- the bytes put in, and what is after them
+  pub drop-there : drop s (put t s b) ≡ b ++ drop (s + length b) t
+  unfolding put
+  drop-there = rw (append-assoc (take s t) b (drop (s + length b) t)) (drop-at (take s t) (b ++ drop (s + length b) t) s (length-take-le s t h))
+
+  pub drop-after : (a : ℕ) → s + length b ≤ a → drop a (put t s b) ≡ drop a t
+  unfolding put
+  drop-after a g =
+      let l : length (take s t ++ b) ≡ s + length b = length-append (take s t) b ∙ ap (λ (n : ℕ). n + length b) (length-take-le s t h) in
+      let q : s + length b + (a - (s + length b)) ≡ a = omega arith in
+      subst (λ (k : ℕ). drop k (take s t ++ b ++ drop (s + length b) t) ≡ drop k t) q
+      (sym (drop-drop (a - (s + length b)) (s + length b) (take s t ++ b ++ drop (s + length b) t))
+      ∙ ap (drop (a - (s + length b))) (drop-at (take s t ++ b) (drop (s + length b) t) (s + length b) l)
+      ∙ drop-drop (a - (s + length b)) (s + length b) t)

@@ -30,7 +30,7 @@ pub enum Named {
 // Where a number's name stands in the buffer.
 pub enum NameAt {
     // 27
-    Refused,
+    BadTable,
     // The table is right and has no such number.
     Nothing,
     Found { start: usize, len: usize },
@@ -269,7 +269,7 @@ pub fn place_at(table: &[u8], number: u16, folding: bool) -> NameAt
     ensures { λ r. ⌜ r ≡ placeAt folding (now (table .entry)) number ⌝ }
 {
     if !check_table(table, folding) {
-        return NameAt::Refused;
+        return NameAt::BadTable;
     }
     let i = number as usize;
     if count_of(table) <= i {

@@ -9,10 +9,6 @@ use Rattle.names.proofs.Entries.{entry-long, wrong-entry, right-entry, 
 use borrow.Author.Needs.{needs}
 use Rattle.names.proofs.all_right.Statement.{statement}
 use Rattle.names.proofs.all_right.Tie as tie
-use Rattle.names.proofs.all_right.Reads as reads
-use Rattle.names.proofs.all_right.Lts as lts
-use Rattle.names.proofs.entry_of.Reads as entry-of-reads
-use Rattle.names.proofs.is_right.Reads as is-right-reads
 
 abbrev Inv-loop : tie.InvT-loop
 Inv-loop table n folding i₀ i = (i ≤ n) × ((k : ℕ) → k < i → rightEntry folding (entryAt table k) ≡ true)

@@ -3,12 +3,6 @@ use borrow.Author.Tests.{not-true, not-false}
 use borrow.Author.Needs.{needs}
 use Rattle.names.proofs.check_table.Statement.{statement}
 use Rattle.names.proofs.check_table.Tie as tie
-use Rattle.names.proofs.check_table.Reads as reads
-use Rattle.names.proofs.check_table.Lts as lts
-use Rattle.names.proofs.all_right.Reads as all-right-reads
-use Rattle.names.proofs.count_of.Reads as count-of-reads
-use Rattle.names.proofs.is_zero.Reads as is-zero-reads
-use Rattle.names.proofs.none_twice.Reads as none-twice-reads
 
 -- src/lib.rt:199:9
 returns : tie.Need-returns

@@ -3,8 +3,6 @@ use Rattle.names.proofs.Entries.{count-bytes}
 use borrow.Author.Needs.{needs}
 use Rattle.names.proofs.count_of.Statement.{statement}
 use Rattle.names.proofs.count_of.Tie as tie
-use Rattle.names.proofs.count_of.Reads as reads
-use Rattle.names.proofs.count_of.Lts as lts
 
 -- src/lib.rt:110:6
 shared-slice-read-result : tie.Need-shared-slice-read-result

@@ -2,8 +2,6 @@ use Rattle.names.proofs.Entries.{entry-part}
 use borrow.Author.Needs.{needs}
 use Rattle.names.proofs.entry_of.Statement.{statement}
 use Rattle.names.proofs.entry_of.Tie as tie
-use Rattle.names.proofs.entry_of.Reads as reads
-use Rattle.names.proofs.entry_of.Lts as lts
 
 -- src/lib.rt:117:21
 mul-start : tie.Need-mul-start

@@ -2,8 +2,6 @@ use Rattle.names.proofs.Bytes.{fold-low, fold-high, fold-upper}
 use borrow.Author.Needs.{needs}
 use Rattle.names.proofs.fold_byte.Statement.{statement}
 use Rattle.names.proofs.fold_byte.Tie as tie
-use Rattle.names.proofs.fold_byte.Reads as reads
-use Rattle.names.proofs.fold_byte.Lts as lts
 
 -- src/lib.rt:44:9
 returns : tie.Need-returns

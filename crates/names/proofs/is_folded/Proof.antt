@@ -8,8 +8,6 @@ use Rattle.names.proofs.Bytes.{not-folded, all-folded, small}
 use borrow.Author.Needs.{needs}
 use Rattle.names.proofs.is_folded.Statement.{statement}
 use Rattle.names.proofs.is_folded.Tie as tie
-use Rattle.names.proofs.is_folded.Reads as reads
-use Rattle.names.proofs.is_folded.Lts as lts
 
 abbrev Inv-loop : tie.InvT-loop
 Inv-loop name i₀ i = (i ≤ length name) × ((k : ℕ) → k < i → isUpper (getD name k 0) ≡ false)

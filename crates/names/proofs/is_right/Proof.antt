@@ -4,11 +4,6 @@ use Rattle.names.proofs.Entries.{too-long, not-unused, as-it-is, if-fol
 use borrow.Author.Needs.{needs}
 use Rattle.names.proofs.is_right.Statement.{statement}
 use Rattle.names.proofs.is_right.Tie as tie
-use Rattle.names.proofs.is_right.Reads as reads
-use Rattle.names.proofs.is_right.Lts as lts
-use Rattle.names.proofs.is_folded.Reads as is-folded-reads
-use Rattle.names.proofs.is_zero.Reads as is-zero-reads
-use Rattle.names.proofs.name_of.Reads as name-of-reads
 
 -- src/lib.rt:135:15
 shared-slice-read-len : tie.Need-shared-slice-read-len

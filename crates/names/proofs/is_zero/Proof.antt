@@ -6,8 +6,6 @@ use Rattle.names.proofs.Bytes.{not-zero, all-zero}
 use borrow.Author.Needs.{needs}
 use Rattle.names.proofs.is_zero.Statement.{statement}
 use Rattle.names.proofs.is_zero.Tie as tie
-use Rattle.names.proofs.is_zero.Reads as reads
-use Rattle.names.proofs.is_zero.Lts as lts
 
 abbrev Inv-loop : tie.InvT-loop
 Inv-loop bytes i₀ i = (i ≤ length bytes) × ((k : ℕ) → k < i → getD bytes k 0 ≡ 0)

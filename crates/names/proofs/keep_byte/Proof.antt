@@ -2,9 +2,6 @@ use Rattle.names.proofs.Bytes.{keep-folding, keep-as-is}
 use borrow.Author.Needs.{needs}
 use Rattle.names.proofs.keep_byte.Statement.{statement}
 use Rattle.names.proofs.keep_byte.Tie as tie
-use Rattle.names.proofs.keep_byte.Reads as reads
-use Rattle.names.proofs.keep_byte.Lts as lts
-use Rattle.names.proofs.fold_byte.Reads as fold-byte-reads
 
 -- src/lib.rt:57:9
 fold-byte-requires : tie.Need-fold-byte-requires

@@ -1,7 +1,7 @@
 use denote.Ref.{now}
 use native.Mathlib.Omega.{arith}
 use mathlib.Core.Path.{_≡_, sym, _∙_}
-use Prim.Native.Nat.{ℕ, _≤_, _<_, _+_, _-_, _*_}
+use Prim.Native.Nat.{_≤_, _+_, _-_, _*_}
 use lib.ListN.{length, set, length-set}
 use lib.Seq.{paste, paste-zero}
 use Rattle.names.specs.Bytes.{kept}
@@ -9,9 +9,6 @@ use Rattle.names.proofs.Puts.{one-more, all-stored}
 use borrow.Author.Needs.{needs}
 use Rattle.names.proofs.learn.Statement.{statement}
 use Rattle.names.proofs.learn.Tie as tie
-use Rattle.names.proofs.learn.Reads as reads
-use Rattle.names.proofs.learn.Lts as lts
-use Rattle.names.proofs.keep_byte.Reads as keep-byte-reads
 
 abbrev Inv-loop : tie.InvT-loop
 Inv-loop table₀ name folding n start at i₀ table i = (i ≤ length name) × (length table ≡ 16642) × (table ≡ paste table₀ at (kept folding name) i)

@@ -7,12 +7,6 @@ use borrow.Author.Tests.{not-true, not-false}
 use borrow.Author.Needs.{needs}
 use Rattle.names.proofs.name_at.Statement.{statement}
 use Rattle.names.proofs.name_at.Tie as tie
-use Rattle.names.proofs.name_at.Reads as reads
-use Rattle.names.proofs.name_at.Lts as lts
-use Rattle.names.proofs.check_table.Reads as check-table-reads
-use Rattle.names.proofs.count_of.Reads as count-of-reads
-use Rattle.names.proofs.entry_of.Reads as entry-of-reads
-use Rattle.names.proofs.name_of.Reads as name-of-reads
 
 -- src/lib.rt:290:9
 check-table-requires : tie.Need-check-table-requires

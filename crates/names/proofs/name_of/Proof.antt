@@ -2,8 +2,6 @@ use Rattle.names.proofs.Entries.{name-part}
 use borrow.Author.Needs.{needs}
 use Rattle.names.proofs.name_of.Statement.{statement}
 use Rattle.names.proofs.name_of.Tie as tie
-use Rattle.names.proofs.name_of.Reads as reads
-use Rattle.names.proofs.name_of.Lts as lts
 
 -- src/lib.rt:126:20
 shared-slice-read-end : tie.Need-shared-slice-read-end

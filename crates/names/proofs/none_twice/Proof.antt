@@ -1,6 +1,6 @@
 use native.Mathlib.Omega.{arith}
 use mathlib.Core.Path.{_≡_}
-use Prim.Native.Nat.{ℕ, _≤_, _<_, _-_}
+use Prim.Native.Nat.{_≤_, _-_}
 use Rattle.names.specs.Bytes.{noneTwice}
 use Rattle.names.specs.Table.{namesFrom}
 use Rattle.names.proofs.Entries.{entry-long, short-at}
@@ -8,11 +8,6 @@ use Rattle.names.proofs.Lists.{twice-start, twice, once, none-left}
 use borrow.Author.Needs.{needs}
 use Rattle.names.proofs.none_twice.Statement.{statement}
 use Rattle.names.proofs.none_twice.Tie as tie
-use Rattle.names.proofs.none_twice.Reads as reads
-use Rattle.names.proofs.none_twice.Lts as lts
-use Rattle.names.proofs.entry_of.Reads as entry-of-reads
-use Rattle.names.proofs.name_of.Reads as name-of-reads
-use Rattle.names.proofs.place_from.Reads as place-from-reads
 
 abbrev Inv-loop : tie.InvT-loop
 Inv-loop table n i₀ i = (i ≤ n) × (noneTwice (namesFrom table i (n - i)) ≡ noneTwice (namesFrom table 0 n))

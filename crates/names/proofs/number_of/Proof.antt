@@ -6,12 +6,6 @@ use borrow.Author.Tests.{not-true, not-false}
 use borrow.Author.Needs.{needs}
 use Rattle.names.proofs.number_of.Statement.{statement}
 use Rattle.names.proofs.number_of.Tie as tie
-use Rattle.names.proofs.number_of.Reads as reads
-use Rattle.names.proofs.number_of.Lts as lts
-use Rattle.names.proofs.check_table.Reads as check-table-reads
-use Rattle.names.proofs.count_of.Reads as count-of-reads
-use Rattle.names.proofs.learn.Reads as learn-reads
-use Rattle.names.proofs.place_from.Reads as place-from-reads
 
 -- src/lib.rt:236:9
 check-table-requires : tie.Need-check-table-requires

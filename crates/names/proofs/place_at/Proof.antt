@@ -7,10 +7,6 @@ use borrow.Author.Tests.{not-true, not-false}
 use borrow.Author.Needs.{needs}
 use Rattle.names.proofs.place_at.Statement.{statement}
 use Rattle.names.proofs.place_at.Tie as tie
-use Rattle.names.proofs.place_at.Reads as reads
-use Rattle.names.proofs.place_at.Lts as lts
-use Rattle.names.proofs.check_table.Reads as check-table-reads
-use Rattle.names.proofs.count_of.Reads as count-of-reads
 
 -- src/lib.rt:271:9
 check-table-requires : tie.Need-check-table-requires

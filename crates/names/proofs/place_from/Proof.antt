@@ -1,5 +1,5 @@
 use mathlib.Core.Path.{_≡_}
-use Prim.Native.Nat.{ℕ, _≤_, _<_, _+_, _-_}
+use Prim.Native.Nat.{_≤_, _+_, _-_}
 use native.Mathlib.Omega.{arith}
 use Rattle.names.specs.Bytes.{kept, placeOf}
 use Rattle.names.specs.Table.{namesFrom}
@@ -8,11 +8,6 @@ use Rattle.names.proofs.Lists.{found-there, not-there, nowhere}
 use borrow.Author.Needs.{needs}
 use Rattle.names.proofs.place_from.Statement.{statement}
 use Rattle.names.proofs.place_from.Tie as tie
-use Rattle.names.proofs.place_from.Reads as reads
-use Rattle.names.proofs.place_from.Lts as lts
-use Rattle.names.proofs.entry_of.Reads as entry-of-reads
-use Rattle.names.proofs.name_of.Reads as name-of-reads
-use Rattle.names.proofs.same_name.Reads as same-name-reads
 
 abbrev Inv-loop : tie.InvT-loop
 Inv-loop table name folding from n i₀ i = (i ≤ n) × (i + placeOf (kept folding name) (namesFrom table i (n - i)) ≡ from + placeOf (kept folding name) (namesFrom table from (n - from)))

@@ -7,9 +7,6 @@ use Rattle.names.proofs.Bytes.{other-length, other-byte, same-bytes}
 use borrow.Author.Needs.{needs}
 use Rattle.names.proofs.same_name.Statement.{statement}
 use Rattle.names.proofs.same_name.Tie as tie
-use Rattle.names.proofs.same_name.Reads as reads
-use Rattle.names.proofs.same_name.Lts as lts
-use Rattle.names.proofs.keep_byte.Reads as keep-byte-reads
 
 abbrev Inv-loop : tie.InvT-loop
 Inv-loop stored name folding i₀ i = (i ≤ length name) × ((k : ℕ) → k < i → getD stored k 0 ≡ keep1 folding (getD name k 0))
