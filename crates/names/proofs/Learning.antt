@@ -22,7 +22,7 @@ use Rattle.names.proofs.Puts.{length-put, part-before, drop-there, drop
 use Rattle.names.proofs.Right.{right-size, right-entries, right-past, right-once, make-right}
 
 -- ---- zeros
-zeros-take : (k : ℕ) (b : List ℕ) → Yes (zeros b) → Yes (zeros (take k b))
+pub zeros-take : (k : ℕ) (b : List ℕ) → Yes (zeros b) → Yes (zeros (take k b))
 unfolding zeros
 zeros-take zero b y = refl
 zeros-take (suc k) [] y = refl

@@ -6,3 +6,4 @@ pub mod Puts
 pub mod Chain
 pub mod Learning
 pub mod Theorems
+pub mod Whole

@@ -9,7 +9,7 @@ use lib.Dec.{eqb, leb, ltb}
 use lib.Seq.{take-take, drop-drop}
 use lib.ListN.{length, getD, take, drop}
 use borrow.Author.Tests.{leb-true, leb-false, ltb-true, eqb-true, ltb-false, le-leb, lt-ltb}
-use Rattle.lists.specs.Tests.{Yes, No}
+use Rattle.lists.specs.Tests.{_and_, Yes, No}
 use Rattle.lists.specs.Below.{allBelow}
 use Rattle.lists.proofs.Lists.{all→}
 use Rattle.lists.proofs.Places.{mem-at}
@@ -18,7 +18,7 @@ use Rattle.names.specs.declared.Named.{Named}
 use Rattle.names.specs.declared.Named.the-variants.{BadTable, NameTooLong, NamesFull, Known, Learned}
 use Rattle.names.specs.declared.NameAt.{NameAt}
 use Rattle.names.specs.declared.NameAt.the-variants.{Found}
-use Rattle.names.specs.Bytes.{kept, known, placeOf, noneTwice}
+use Rattle.names.specs.Bytes.{isUpper, fold1, keep1, kept, known, placeOf, noneTwice}
 use Rattle.names.specs.Table.{countOf, entryStart, entryAt, lengthOf, nameOf, namesFrom, namesOf, zeros, rightTable, learned}
 use Rattle.names.specs.Answers.{Done, done, numberOf, paperOf, valuesOf, isNew, placeAt, nameAt}
 use Rattle.names.proofs.Bytes.{→same, kept-length, kept-folded}
@@ -232,3 +232,12 @@ module _ (t : List ℕ) (l : length t ≡ 16642) (z : Yes (zeros t)) where
   pub empty-right : (f : Bool) → Yes (rightTable f t)
   unfolding allBelow noneTwice
   empty-right f = make-right f t l (omega (arith, no-count)) (rw no-count) (rw no-count (zeros-drop 2 t z)) (rw empty-names)
+
+-- ---- the ends of the letters, worked: `@AZ[`az{` is kept as `@az[`az{` by a table that folds, and as it is by one that does not
+pub folds-letters : kept true (0x40 ∷ 0x41 ∷ 0x5A ∷ 0x5B ∷ 0x60 ∷ 0x61 ∷ 0x7A ∷ 0x7B ∷ []) ≡ 0x40 ∷ 0x61 ∷ 0x7A ∷ 0x5B ∷ 0x60 ∷ 0x61 ∷ 0x7A ∷ 0x7B ∷ []
+unfolding kept keep1 fold1 isUpper _and_
+folds-letters = refl
+
+pub keeps-letters : kept false (0x41 ∷ 0x61 ∷ []) ≡ 0x41 ∷ 0x61 ∷ []
+unfolding kept keep1
+keeps-letters = refl

@@ -10,8 +10,16 @@ ghost use Rattle.names.specs.Bytes.{fold1, keep1, kept, folded, sameByte
 ghost use Rattle.names.specs.Table.{countOf, entryStart, entryAt, lengthOf, nameOf, namesFrom, zeros, rightEntry, rightTable, shortNames, put};
 ghost use Rattle.names.specs.Answers.{done, numberOf, paperOf, placeAt, nameAt};
 
-// The bytes of a table: a count of two, and 256 entries of 65.
+// A table: a count of two bytes, least first, and 256 entries of a length byte and 64 bytes.
 pub const SIZE: usize = 16642;
+
+pub const MOST: usize = 256;
+
+pub const LONGEST: usize = 64;
+
+const FIRST: usize = 2;
+
+const ENTRY: usize = 65;
 
 // What a call for a name's number answers.
 pub enum Named {
@@ -76,6 +84,7 @@ fn same_name(stored: &[u8], name: &[u8], folding: bool) -> bool
     true
 }
 
+// No capital letter: what a table that folds may hold.
 fn is_folded(name: &[u8]) -> bool
     ensures { λ r. ⌜ r ≡ folded (now (name .entry)) ⌝ }
 {
@@ -90,6 +99,7 @@ fn is_folded(name: &[u8]) -> bool
     true
 }
 
+// Bytes that nothing uses are zero, so that equal tables are equal bytes.
 fn is_zero(bytes: &[u8]) -> bool
     ensures { λ r. ⌜ r ≡ zeros (now (bytes .entry)) ⌝ }
 {
@@ -103,6 +113,7 @@ fn is_zero(bytes: &[u8]) -> bool
     true
 }
 
+// At most 65535: the count is judged before it is used.
 fn count_of(table: &[u8]) -> usize
     requires { ⌜ length (now table) ≡ 16642 ⌝ }
     ensures { λ r. ⌜ r ≡ countOf (now (table .entry)) ⌝ }
@@ -110,15 +121,17 @@ fn count_of(table: &[u8]) -> usize
     (table[0] as usize) + (table[1] as usize) * 256
 }
 
+// The entry of a number, at or past the count too.
 fn entry_of(table: &[u8], i: usize) -> &[u8]
     requires { ⌜ (length (now table) ≡ 16642) × (i < 256) ⌝ }
     ensures { λ r. ⌜ now r ≡ entryAt (now (table .entry)) i ⌝ }
 {
-    let start = 2 + i * 65;
-    let end = start + 65;
+    let start = FIRST + i * ENTRY;
+    let end = start + ENTRY;
     &table[start..end]
 }
 
+// The name in an entry whose length byte was judged.
 fn name_of(bytes: &[u8]) -> &[u8]
     requires { ⌜ (length (now bytes) ≡ 65) × (lengthOf (now bytes) ≤ 64) ⌝ }
     ensures { λ r. ⌜ now r ≡ nameOf (now (bytes .entry)) ⌝ }
@@ -127,13 +140,13 @@ fn name_of(bytes: &[u8]) -> &[u8]
     &bytes[1..end]
 }
 
-// An entry below the count.
+// An entry below the count: its length first, since the rest is read by it.
 fn is_right(bytes: &[u8], folding: bool) -> bool
     requires { ⌜ length (now bytes) ≡ 65 ⌝ }
     ensures { λ r. ⌜ r ≡ rightEntry folding (now (bytes .entry)) ⌝ }
 {
     let len = bytes[0] as usize;
-    if 64 < len {
+    if LONGEST < len {
         return false;
     }
     let end = 1 + len;
@@ -146,6 +159,7 @@ fn is_right(bytes: &[u8], folding: bool) -> bool
     is_folded(name_of(bytes))
 }
 
+// Every entry below the count, so that the names can be read.
 fn all_right(table: &[u8], n: usize, folding: bool) -> bool
     requires { ⌜ (length (now table) ≡ 16642) × (n ≤ 256) ⌝ }
     ensures { λ r. ⌜ r ≡ allBelow n (λ i. rightEntry folding (entryAt (now (table .entry)) i)) ⌝ }
@@ -175,7 +189,7 @@ fn place_from(table: &[u8], name: &[u8], folding: bool, from: usize, n: usize) -
     i
 }
 
-// Each name against those after it.
+// Each name against those after it. Stored names are compared as they are.
 fn none_twice(table: &[u8], n: usize) -> bool
     requires { ⌜ (length (now table) ≡ 16642) × (n ≤ 256) × (shortNames n (now table) ≡ true) ⌝ }
     ensures { λ r. ⌜ r ≡ noneTwice (namesFrom (now (table .entry)) 0 n) ⌝ }
@@ -199,13 +213,13 @@ pub fn check_table(table: &[u8], folding: bool) -> bool
         return false;
     }
     let n = count_of(table);
-    if 256 < n {
+    if MOST < n {
         return false;
     }
     if !all_right(table, n, folding) {
         return false;
     }
-    let past = 2 + n * 65;
+    let past = FIRST + n * ENTRY;
     if !is_zero(&table[past..]) {
         return false;
     }
@@ -217,7 +231,7 @@ fn learn(table: &mut [u8], name: &[u8], folding: bool, n: usize)
     requires { ⌜ (length (now table) ≡ 16642) × (length (now name) ≤ 64) × (n < 256) ⌝ }
     ensures { λ r. ⌜ now (table .exit) ≡ put (put (now (table .entry)) (entryStart n) (length (now (name .entry)) ∷ kept folding (now (name .entry)))) 0 ((n + 1) % 256 ∷ (n + 1) / 256 ∷ []) ⌝ }
 {
-    let start = 2 + n * 65;
+    let start = FIRST + n * ENTRY;
     table[start] = name.len() as u8;
     let at = start + 1;
     let mut i = 0;
@@ -236,7 +250,7 @@ pub fn number_of(table: &mut [u8], name: &[u8], folding: bool) -> Named
     if !check_table(table, folding) {
         return Named::BadTable;
     }
-    if 64 < name.len() {
+    if LONGEST < name.len() {
         return Named::NameTooLong;
     }
     let n = count_of(table);
@@ -244,7 +258,7 @@ pub fn number_of(table: &mut [u8], name: &[u8], folding: bool) -> Named
     if at < n {
         return Named::Known(at as u8);
     }
-    if 256 <= n {
+    if MOST <= n {
         return Named::NamesFull;
     }
     learn(table, name, folding, n);
@@ -275,15 +289,15 @@ pub fn place_at(table: &[u8], number: u16, folding: bool) -> NameAt
     if count_of(table) <= i {
         return NameAt::Nothing;
     }
-    let start = 2 + i * 65;
+    let start = FIRST + i * ENTRY;
     NameAt::Found {
         start: start + 1,
         len: table[start] as usize,
     }
 }
 
-// The number's name as a part of the buffer; the empty part where there is none, so that `place_at` tells an empty name
-// from no name.
+// The number's name as a part of the buffer; the empty part where there is none. The empty name is a name too: `place_at`
+// tells the two apart.
 pub fn name_at(table: &[u8], number: u16, folding: bool) -> &[u8]
     ensures { λ r. ⌜ now r ≡ nameAt folding (now (table .entry)) number ⌝ }
 {

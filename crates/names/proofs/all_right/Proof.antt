@@ -1,3 +1,5 @@
+-- `names::all_right` meets its contract: every entry passed is right.
+-- Assumes nothing.
 use borrow.Author.Tests.{not-true, not-false}
 use mathlib.Core.Path.{_≡_}
 use mathlib.Core.Bool.{true}
@@ -16,35 +18,27 @@ Inv-loop table n folding i₀ i = (i ≤ n) × ((k : ℕ) → k < i → rightEnt
 abbrev μ-loop : tie.MeasureT-loop
 μ-loop table n folding i₀ i = n - i
 
--- src/lib.rt:154:5
 loop-holds : tie.Need-loop-holds Inv-loop μ-loop
 loop-holds c = (search needs, below-none _)
 
--- src/lib.rt:155:22
 entry-of-requires : tie.Need-entry-of-requires Inv-loop μ-loop
 entry-of-requires c κs = search needs
 
--- src/lib.rt:155:13
 is-right-requires : tie.Need-is-right-requires Inv-loop μ-loop
 is-right-requires c κs = entry-long _ _ (c .before .before .loop .i) (c .before .before .before .before .pre .0) (omega arith) (c .entry-of .ensures)
 
--- src/lib.rt:156:13
 returns : tie.Need-returns Inv-loop μ-loop
 returns c = wrong-entry _ _ _ (c .before .before .before .before .loop .i) _ _ (c .before .before .before .loop-test .taken) (c .before .before .entry-of .ensures) (c .before .is-right .ensures) (not-true _ (c .if1 .taken))
 
--- src/lib.rt:158:9
 add-i : tie.Need-add-i Inv-loop μ-loop
 add-i c = search needs
 
--- src/lib.rt:154:5
 loop-less : tie.Need-loop-less Inv-loop μ-loop
 loop-less c = search needs
 
--- src/lib.rt:154:5
 loop-again : tie.Need-loop-again Inv-loop μ-loop
 loop-again c = (search needs, below-more _ _ (c .before .before .before .before .loop .inv .1) (right-entry _ _ _ _ _ (c .before .before .entry-of .ensures) (c .before .is-right .ensures) (not-false _ (c .if1 .left))))
 
--- src/lib.rt:149:1
 returns-2 : tie.Need-returns-2 Inv-loop μ-loop
 returns-2 c = right-entries _ _ _ (c .before .loop .i) (c .loop-test .left) (c .before .loop .inv .1)
 

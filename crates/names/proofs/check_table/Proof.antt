@@ -1,62 +1,50 @@
+-- `names::check_table` meets its contract: the five tests in turn.
+-- Assumes nothing.
 use Rattle.names.proofs.Right.{other-size, over-count, entry-wrong, entries-short, past-used, if-once}
 use borrow.Author.Tests.{not-true, not-false}
 use borrow.Author.Needs.{needs}
 use Rattle.names.proofs.check_table.Statement.{statement}
 use Rattle.names.proofs.check_table.Tie as tie
 
--- src/lib.rt:199:9
 returns : tie.Need-returns
 returns c = other-size _ _ (c .if1 .taken)
 
--- src/lib.rt:201:9
 count-of-requires : tie.Need-count-of-requires
 count-of-requires c κs = search needs
 
--- src/lib.rt:203:9
 returns-2 : tie.Need-returns-2
 returns-2 c = over-count _ _ (c .before .before .if1 .left) _ (c .before .count-of .ensures) (c .if2 .taken)
 
--- src/lib.rt:205:9
 all-right-requires : tie.Need-all-right-requires
 all-right-requires c κs = search needs
 
--- src/lib.rt:206:9
 returns-3 : tie.Need-returns-3
 returns-3 c = entry-wrong _ _ (c .before .before .before .before .if1 .left) _ (c .before .before .before .count-of .ensures) (c .before .before .if2 .left) _ (c .before .all-right .ensures) (not-true _ (c .if3 .taken))
 
--- src/lib.rt:208:20
 mul-past : tie.Need-mul-past
 mul-past c = search needs
 
--- src/lib.rt:208:16
 add-past : tie.Need-add-past
 add-past c = search needs
 
--- src/lib.rt:209:17
 sub-is-zero : tie.Need-sub-is-zero
 sub-is-zero c = search needs
 
--- src/lib.rt:209:17
 part-is-zero-start : tie.Need-part-is-zero-start
 part-is-zero-start c = search needs
 
--- src/lib.rt:209:17
 part-is-zero-end : tie.Need-part-is-zero-end
 part-is-zero-end c = search needs
 
--- src/lib.rt:209:9
 is-zero-requires : tie.Need-is-zero-requires
 is-zero-requires c κs = search needs
 
--- src/lib.rt:210:9
 returns-4 : tie.Need-returns-4
 returns-4 c = past-used _ _ (c .before .before .before .before .before .before .before .if1 .left) _ (c .before .before .before .before .before .before .count-of .ensures) (c .before .before .before .before .before .if2 .left) _ (c .before .before .before .before .all-right .ensures) (not-false _ (c .before .before .before .if3 .left)) _ (c .before .is-zero .ensures) (not-true _ (c .if4 .taken))
 
--- src/lib.rt:212:5
 none-twice-requires : tie.Need-none-twice-requires
 none-twice-requires c κs = (c .before .before .before .before .before .before .before .if1 .left, c .before .before .before .before .before .if2 .left, entries-short _ _ (c .before .before .before .before .before .before .before .if1 .left) _ (c .before .before .before .before .before .before .count-of .ensures) (c .before .before .before .before .before .if2 .left) _ (c .before .before .before .before .all-right .ensures) (not-false _ (c .before .before .before .if3 .left)))
 
--- src/lib.rt:195:1
 returns-5 : tie.Need-returns-5
 returns-5 c = if-once _ _ (c .before .before .before .before .before .before .before .before .if1 .left) _ (c .before .before .before .before .before .before .before .count-of .ensures) (c .before .before .before .before .before .before .if2 .left) _ (c .before .before .before .before .before .all-right .ensures) (not-false _ (c .before .before .before .before .if3 .left)) _ (c .before .before .is-zero .ensures) _ (not-false _ (c .before .if4 .left)) (c .none-twice .ensures)
 

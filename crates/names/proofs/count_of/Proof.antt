@@ -1,34 +1,29 @@
+-- `names::count_of` meets its contract: two bytes, least first.
+-- Assumes nothing.
 use native.Mathlib.Omega.{arith}
 use Rattle.names.proofs.Entries.{count-bytes}
 use borrow.Author.Needs.{needs}
 use Rattle.names.proofs.count_of.Statement.{statement}
 use Rattle.names.proofs.count_of.Tie as tie
 
--- src/lib.rt:110:6
 shared-slice-read-result : tie.Need-shared-slice-read-result
 shared-slice-read-result c = search needs
 
--- src/lib.rt:110:6
 cast-result : tie.Need-cast-result
 cast-result c = omega (arith, c .shared-slice-known .given 0)
 
--- src/lib.rt:110:28
 shared-slice-read-result-2 : tie.Need-shared-slice-read-result-2
 shared-slice-read-result-2 c = search needs
 
--- src/lib.rt:110:28
 cast-result-2 : tie.Need-cast-result-2
 cast-result-2 c = omega (arith, c .shared-slice-known2 .given 1)
 
--- src/lib.rt:110:27
 mul-result : tie.Need-mul-result
 mul-result c = omega (arith, c .shared-slice-known2 .given 1)
 
--- src/lib.rt:110:5
 add-result : tie.Need-add-result
 add-result c = omega (arith, c .shared-slice-known2 .given 0, c .shared-slice-known2 .given 1)
 
--- src/lib.rt:106:1
 returns : tie.Need-returns
 returns c = count-bytes _
 

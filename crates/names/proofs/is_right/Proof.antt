@@ -1,3 +1,5 @@
+-- `names::is_right` meets its contract: the three tests in turn.
+-- Assumes nothing.
 use borrow.Author.Tests.{not-true, not-false}
 use native.Mathlib.Omega.{arith}
 use Rattle.names.proofs.Entries.{too-long, not-unused, as-it-is, if-folded}
@@ -5,55 +7,42 @@ use borrow.Author.Needs.{needs}
 use Rattle.names.proofs.is_right.Statement.{statement}
 use Rattle.names.proofs.is_right.Tie as tie
 
--- src/lib.rt:135:15
 shared-slice-read-len : tie.Need-shared-slice-read-len
 shared-slice-read-len c = search needs
 
--- src/lib.rt:135:15
 cast-len : tie.Need-cast-len
 cast-len c = omega (arith, c .shared-slice-known2 .given 0)
 
--- src/lib.rt:137:9
 returns : tie.Need-returns
 returns c = search (too-long, needs)
 
--- src/lib.rt:139:15
 add-end : tie.Need-add-end
 add-end c = search needs
 
--- src/lib.rt:140:17
 sub-is-zero : tie.Need-sub-is-zero
 sub-is-zero c = search needs
 
--- src/lib.rt:140:17
 part-is-zero-start : tie.Need-part-is-zero-start
 part-is-zero-start c = search needs
 
--- src/lib.rt:140:17
 part-is-zero-end : tie.Need-part-is-zero-end
 part-is-zero-end c = search needs
 
--- src/lib.rt:140:9
 is-zero-requires : tie.Need-is-zero-requires
 is-zero-requires c κs = search needs
 
--- src/lib.rt:141:9
 returns-2 : tie.Need-returns-2
 returns-2 c = not-unused _ _ (c .before .before .before .if1 .left) _ (c .before .is-zero .ensures) (not-true _ (c .if2 .taken))
 
--- src/lib.rt:144:9
 returns-3 : tie.Need-returns-3
 returns-3 c = as-it-is _ _ (c .before .before .before .before .if1 .left) _ (c .before .before .is-zero .ensures) (not-false _ (c .before .if2 .left)) (not-true _ (c .if3 .taken))
 
--- src/lib.rt:146:15
 name-of-requires : tie.Need-name-of-requires
 name-of-requires c κs = search needs
 
--- src/lib.rt:146:5
 is-folded-requires : tie.Need-is-folded-requires
 is-folded-requires c κs = search needs
 
--- src/lib.rt:131:1
 returns-4 : tie.Need-returns-4
 returns-4 c = if-folded _ _ (c .before .before .before .before .before .before .if1 .left) _ (c .before .before .before .before .is-zero .ensures) _ _ (not-false _ (c .before .before .before .if2 .left)) (not-false _ (c .before .before .if3 .left)) (c .before .name-of .ensures) (c .is-folded .ensures)
 

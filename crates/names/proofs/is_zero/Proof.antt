@@ -1,3 +1,5 @@
+-- `names::is_zero` meets its contract: every byte passed is zero.
+-- Assumes nothing.
 use mathlib.Core.Path.{_≡_}
 use Prim.Native.Nat.{ℕ, _≤_, _<_, _-_}
 use lib.ListN.{length, getD}
@@ -13,31 +15,24 @@ Inv-loop bytes i₀ i = (i ≤ length bytes) × ((k : ℕ) → k < i → getD by
 abbrev μ-loop : tie.MeasureT-loop
 μ-loop bytes i₀ i = length bytes - i
 
--- src/lib.rt:97:5
 loop-holds : tie.Need-loop-holds Inv-loop μ-loop
 loop-holds c = search needs
 
--- src/lib.rt:98:12
 shared-slice-read-if1 : tie.Need-shared-slice-read-if1 Inv-loop μ-loop
 shared-slice-read-if1 c = search needs
 
--- src/lib.rt:99:13
 returns : tie.Need-returns Inv-loop μ-loop
 returns c = search (not-zero, needs)
 
--- src/lib.rt:101:9
 add-i : tie.Need-add-i Inv-loop μ-loop
 add-i c = search needs
 
--- src/lib.rt:97:5
 loop-less : tie.Need-loop-less Inv-loop μ-loop
 loop-less c = search needs
 
--- src/lib.rt:97:5
 loop-again : tie.Need-loop-again Inv-loop μ-loop
 loop-again c = (search needs, below-more _ _ (c .before .before .before .loop .inv .1) (c .if1 .left))
 
--- src/lib.rt:93:1
 returns-2 : tie.Need-returns-2 Inv-loop μ-loop
 returns-2 c = search (all-zero, needs)
 

@@ -1,3 +1,5 @@
+-- `names::learn` meets its contract: the entry's length byte, then the name's bytes passed, then the count.
+-- Assumes nothing.
 use denote.Ref.{now}
 use native.Mathlib.Omega.{arith}
 use mathlib.Core.Path.{_≡_, sym, _∙_}
@@ -16,87 +18,66 @@ Inv-loop table₀ name folding n start at i₀ table i = (i ≤ length name) × 
 abbrev μ-loop : tie.MeasureT-loop
 μ-loop table₀ name folding n start at i₀ table i = length name - i
 
--- src/lib.rt:220:21
 mul-start : tie.Need-mul-start Inv-loop μ-loop
 mul-start c = search needs
 
--- src/lib.rt:220:17
 add-start : tie.Need-add-start Inv-loop μ-loop
 add-start c = search needs
 
--- src/lib.rt:221:20
 cast-table : tie.Need-cast-table Inv-loop μ-loop
 cast-table c = search needs
 
--- src/lib.rt:221:5
 slice-write-table : tie.Need-slice-write-table Inv-loop μ-loop
 slice-write-table c = search needs
 
--- src/lib.rt:222:14
 add-at : tie.Need-add-at Inv-loop μ-loop
 add-at c = search needs
 
--- src/lib.rt:224:5
 loop-holds : tie.Need-loop-holds Inv-loop μ-loop
 loop-holds c = let a = c .before .before .args in (search needs, simp length-set (c .before .before .pre .0), paste-zero (set (now (a .table)) (2 + a .n * 65) (length (now (a .name)))) (2 + a .n * 65 + 1) (kept (a .folding) (now (a .name))))
 
--- src/lib.rt:225:35
 shared-slice-read-keep-byte : tie.Need-shared-slice-read-keep-byte Inv-loop μ-loop
 shared-slice-read-keep-byte c = search needs
 
--- src/lib.rt:225:25
 keep-byte-requires : tie.Need-keep-byte-requires Inv-loop μ-loop
 keep-byte-requires c κs = search needs
 
--- src/lib.rt:225:15
 add-table : tie.Need-add-table Inv-loop μ-loop
 add-table c = search needs
 
--- src/lib.rt:225:9
 slice-write-table-2 : tie.Need-slice-write-table-2 Inv-loop μ-loop
 slice-write-table-2 c = search needs
 
--- src/lib.rt:226:9
 add-i : tie.Need-add-i Inv-loop μ-loop
 add-i c = search needs
 
--- src/lib.rt:224:5
 loop-less : tie.Need-loop-less Inv-loop μ-loop
 loop-less c = search needs
 
--- src/lib.rt:224:5
 loop-again : tie.Need-loop-again Inv-loop μ-loop
 loop-again c = (search needs, simp length-set (c .before .before .before .loop .inv .1), one-more _ _ _ _ _ _ _ (simp length-set (omega arith)) (c .before .before .loop-test .taken) (c .before .before .before .loop .inv .2) (c .keep-byte .ensures))
 
--- src/lib.rt:228:18
 add-table-2 : tie.Need-add-table-2 Inv-loop μ-loop
 add-table-2 c = search needs
 
--- src/lib.rt:228:16
 cast-table-2 : tie.Need-cast-table-2 Inv-loop μ-loop
 cast-table-2 c = search needs
 
--- src/lib.rt:228:5
 slice-write-table-3 : tie.Need-slice-write-table-3 Inv-loop μ-loop
 slice-write-table-3 c = search needs
 
--- src/lib.rt:229:18
 add-table-3 : tie.Need-add-table-3 Inv-loop μ-loop
 add-table-3 c = search needs
 
--- src/lib.rt:229:16
 cast-table-3 : tie.Need-cast-table-3 Inv-loop μ-loop
 cast-table-3 c = search needs
 
--- src/lib.rt:229:5
 slice-write-table-4 : tie.Need-slice-write-table-4 Inv-loop μ-loop
 slice-write-table-4 c = search needs
 
--- src/lib.rt:216:1
 same-length : tie.Need-same-length Inv-loop μ-loop
 same-length c = simp length-set (c .before .loop .inv .1 ∙ sym (c .before .before .before .before .pre .0))
 
--- src/lib.rt:216:1
 returns : tie.Need-returns Inv-loop μ-loop
 returns c = let a = c .before .before .before .before .args in all-stored (now (a .table)) _ (now (a .name)) (a .folding) (a .n) (c .before .loop .i) _ _ (c .before .before .before .before .pre .0) (c .before .before .before .before .pre .2) (c .before .before .before .before .pre .1) (c .before .loop .inv .1 ∙ sym (c .before .before .before .before .pre .0)) (c .before .loop .inv .0) (c .loop-test .left) (c .before .loop .inv .2)
 

@@ -1,3 +1,5 @@
+-- `names::name_at` meets its contract: the table, the number, then the part.
+-- Assumes nothing.
 use Rattle.names.proofs.Chain.{no-name, past-name, named}
 use Rattle.names.proofs.Entries.{entry-long, short-at}
 use Rattle.names.proofs.Right.{right-size, right-count, right-short}
@@ -8,55 +10,42 @@ use borrow.Author.Needs.{needs}
 use Rattle.names.proofs.name_at.Statement.{statement}
 use Rattle.names.proofs.name_at.Tie as tie
 
--- src/lib.rt:290:9
 check-table-requires : tie.Need-check-table-requires
 check-table-requires c κs = search needs
 
--- src/lib.rt:291:16
 sub-result : tie.Need-sub-result
 sub-result c = search needs
 
--- src/lib.rt:291:16
 part-result-start : tie.Need-part-result-start
 part-result-start c = search needs
 
--- src/lib.rt:291:16
 part-result-end : tie.Need-part-result-end
 part-result-end c = search needs
 
--- src/lib.rt:291:9
 returns : tie.Need-returns
 returns c = no-name _ _ _ _ (c .before .before .check-table .ensures) (not-true _ (c .before .if1 .taken))
 
--- src/lib.rt:294:8
 count-of-requires : tie.Need-count-of-requires
 count-of-requires c κs = right-size _ _ (sym (c .before .check-table .ensures) ∙ not-false _ (c .if1 .left))
 
--- src/lib.rt:295:16
 sub-result-2 : tie.Need-sub-result-2
 sub-result-2 c = search needs
 
--- src/lib.rt:295:16
 part-result-start-2 : tie.Need-part-result-start-2
 part-result-start-2 c = search needs
 
--- src/lib.rt:295:16
 part-result-end-2 : tie.Need-part-result-end-2
 part-result-end-2 c = search needs
 
--- src/lib.rt:295:9
 returns-2 : tie.Need-returns-2
 returns-2 c = past-name _ _ _ _ (c .before .before .before .before .check-table .ensures) (not-false _ (c .before .before .before .if1 .left)) _ (c .before .before .count-of .ensures) (c .before .if2 .taken)
 
--- src/lib.rt:297:13
 entry-of-requires : tie.Need-entry-of-requires
 entry-of-requires c κs = let y = sym (c .before .before .before .check-table .ensures) ∙ not-false _ (c .before .before .if1 .left) in (right-size _ _ y, omega (arith, right-count _ _ y, c .before .count-of .ensures))
 
--- src/lib.rt:297:5
 name-of-requires : tie.Need-name-of-requires
 name-of-requires c κs = let y = sym (c .before .before .before .before .check-table .ensures) ∙ not-false _ (c .before .before .before .if1 .left) in let h = c .before .before .count-of .ensures in (entry-long _ _ (c .before .before .before .before .before .before .args .number) (right-size _ _ y) (omega (arith, right-count _ _ y, h)) (c .entry-of .ensures), short-at _ _ _ _ (right-short _ _ y) (omega (arith, h)) (c .entry-of .ensures))
 
--- src/lib.rt:287:1
 returns-3 : tie.Need-returns-3
 returns-3 c = named _ _ _ _ (c .before .before .before .before .before .check-table .ensures) (not-false _ (c .before .before .before .before .if1 .left)) _ (c .before .before .before .count-of .ensures) _ _ (c .before .before .if2 .left) (c .before .entry-of .ensures) (c .name-of .ensures)
 

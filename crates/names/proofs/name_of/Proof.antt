@@ -1,33 +1,28 @@
+-- `names::name_of` meets its contract: the part is the name.
+-- Assumes nothing.
 use Rattle.names.proofs.Entries.{name-part}
 use borrow.Author.Needs.{needs}
 use Rattle.names.proofs.name_of.Statement.{statement}
 use Rattle.names.proofs.name_of.Tie as tie
 
--- src/lib.rt:126:20
 shared-slice-read-end : tie.Need-shared-slice-read-end
 shared-slice-read-end c = search needs
 
--- src/lib.rt:126:20
 cast-end : tie.Need-cast-end
 cast-end c = search needs
 
--- src/lib.rt:126:15
 add-end : tie.Need-add-end
 add-end c = search needs
 
--- src/lib.rt:127:5
 sub-result : tie.Need-sub-result
 sub-result c = search needs
 
--- src/lib.rt:127:5
 part-result-start : tie.Need-part-result-start
 part-result-start c = search needs
 
--- src/lib.rt:127:5
 part-result-end : tie.Need-part-result-end
 part-result-end c = search needs
 
--- src/lib.rt:122:1
 returns : tie.Need-returns
 returns c = name-part _
 

@@ -1,3 +1,5 @@
+-- `names::none_twice` meets its contract: what is left has no name twice exactly if all have none.
+-- Assumes nothing.
 use native.Mathlib.Omega.{arith}
 use mathlib.Core.Path.{_≡_}
 use Prim.Native.Nat.{_≤_, _-_}
@@ -15,39 +17,30 @@ Inv-loop table n i₀ i = (i ≤ n) × (noneTwice (namesFrom table i (n - i)) �
 abbrev μ-loop : tie.MeasureT-loop
 μ-loop table n i₀ i = n - i
 
--- src/lib.rt:184:5
 loop-holds : tie.Need-loop-holds Inv-loop μ-loop
 loop-holds c = (search needs, twice-start _ _)
 
--- src/lib.rt:185:20
 add-next : tie.Need-add-next Inv-loop μ-loop
 add-next c = search needs
 
--- src/lib.rt:186:38
 entry-of-requires : tie.Need-entry-of-requires Inv-loop μ-loop
 entry-of-requires c κs = search needs
 
--- src/lib.rt:186:30
 name-of-requires : tie.Need-name-of-requires Inv-loop μ-loop
 name-of-requires c κs = (entry-long _ _ (c .before .before .loop .i) (c .before .before .before .before .pre .0) (omega arith) (c .entry-of .ensures), search (short-at, needs))
 
--- src/lib.rt:186:12
 place-from-requires : tie.Need-place-from-requires Inv-loop μ-loop
 place-from-requires c κs = search needs
 
--- src/lib.rt:187:13
 returns : tie.Need-returns Inv-loop μ-loop
 returns c = twice _ _ _ (c .before .before .before .before .before .loop .inv .1) _ _ _ (c .before .before .before .before .loop-test .taken) (c .before .before .before .entry-of .ensures) (c .before .before .name-of .ensures) (c .before .place-from .ensures) (c .if1 .taken)
 
--- src/lib.rt:184:5
 loop-less : tie.Need-loop-less Inv-loop μ-loop
 loop-less c = search needs
 
--- src/lib.rt:184:5
 loop-again : tie.Need-loop-again Inv-loop μ-loop
 loop-again c = (search needs, once _ _ _ (c .before .before .before .before .before .loop .inv .1) _ _ _ (c .before .before .before .before .loop-test .taken) (c .before .before .before .entry-of .ensures) (c .before .before .name-of .ensures) (c .before .place-from .ensures) (c .if1 .left))
 
--- src/lib.rt:179:1
 returns-2 : tie.Need-returns-2 Inv-loop μ-loop
 returns-2 c = none-left _ _ (c .before .loop .i) (c .before .loop .inv .1) (c .loop-test .left)
 

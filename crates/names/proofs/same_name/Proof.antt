@@ -1,3 +1,5 @@
+-- `names::same_name` meets its contract: the lengths, then each byte passed is the same; the measure is what is left of the name.
+-- Assumes nothing.
 use mathlib.Core.Path.{_≡_, _∙_}
 use Prim.Native.Nat.{ℕ, _≤_, _<_, _-_}
 use lib.ListN.{length, getD}
@@ -14,43 +16,33 @@ Inv-loop stored name folding i₀ i = (i ≤ length name) × ((k : ℕ) → k < 
 abbrev μ-loop : tie.MeasureT-loop
 μ-loop stored name folding i₀ i = length name - i
 
--- src/lib.rt:67:9
 returns : tie.Need-returns Inv-loop μ-loop
 returns c = search (other-length, needs)
 
--- src/lib.rt:70:5
 loop-holds : tie.Need-loop-holds Inv-loop μ-loop
 loop-holds c = search needs
 
--- src/lib.rt:71:12
 shared-slice-read-if2 : tie.Need-shared-slice-read-if2 Inv-loop μ-loop
 shared-slice-read-if2 c = search needs
 
--- src/lib.rt:71:35
 shared-slice-read-keep-byte : tie.Need-shared-slice-read-keep-byte Inv-loop μ-loop
 shared-slice-read-keep-byte c = search needs
 
--- src/lib.rt:71:25
 keep-byte-requires : tie.Need-keep-byte-requires Inv-loop μ-loop
 keep-byte-requires c κs = search needs
 
--- src/lib.rt:72:13
 returns-2 : tie.Need-returns-2 Inv-loop μ-loop
 returns-2 c = search (other-byte, needs)
 
--- src/lib.rt:74:9
 add-i : tie.Need-add-i Inv-loop μ-loop
 add-i c = search needs
 
--- src/lib.rt:70:5
 loop-less : tie.Need-loop-less Inv-loop μ-loop
 loop-less c = search needs
 
--- src/lib.rt:70:5
 loop-again : tie.Need-loop-again Inv-loop μ-loop
 loop-again c = (search needs, below-more _ _ (c .before .before .before .before .before .loop .inv .1) (c .if2 .left ∙ c .before .keep-byte .ensures))
 
--- src/lib.rt:63:1
 returns-3 : tie.Need-returns-3 Inv-loop μ-loop
 returns-3 c = search (same-bytes, needs)
 
