@@ -8,12 +8,12 @@ use native.Mathlib.Omega.{arith}
 use lib.Dec.{eqb, leb, ltb}
 use lib.Seq.{take-take, drop-drop}
 use lib.ListN.{length, getD, take, drop}
-use borrow.Author.Tests.{leb-true, leb-false, ltb-true, eqb-true, ltb-false, le-leb, lt-ltb}
-use Rattle.lists.specs.Tests.{_and_, Yes, No}
+use borrow.Author.Tests.{leb-true, leb-false, ltb-true, ltb-false, eqb-true, le-ltb, lt-leb}
+use Rattle.lists.specs.Tests.{non, _and_, Yes, No}
 use Rattle.lists.specs.Below.{allBelow}
 use Rattle.lists.proofs.Lists.{all→}
 use Rattle.lists.proofs.Places.{mem-at}
-use Rattle.lists.proofs.Tests.{or-l, or-r, cond-both}
+use Rattle.lists.proofs.Tests.{non-yes, or-l, or-r, cond-both}
 use Rattle.names.specs.declared.Named.{Named}
 use Rattle.names.specs.declared.Named.the-variants.{BadTable, NameTooLong, NamesFull, Known, Learned}
 use Rattle.names.specs.declared.NameAt.{NameAt}
@@ -27,6 +27,12 @@ use Rattle.names.proofs.Entries.{short-at}
 use Rattle.names.proofs.Right.{right-size, right-count, right-short, make-right}
 use Rattle.names.proofs.Learning.{zeros-drop, learned-size, learned-count, learned-names, learned-right, entry-before, entry-past}
 
+-- a test whose negation fails passes
+non-no : (b : Bool) → No (non b) → Yes b
+unfolding non
+non-no true n = refl
+non-no false n = absurd (true≢false n)
+
 -- ---- the five answers, and what led to each
 module _ (f : Bool) (t name : List ℕ) where
   pub answers : (P : Done → Type 0)
@@ -38,20 +44,21 @@ module _ (f : Bool) (t name : List ℕ) where
       → P (numberOf f t name)
   unfolding numberOf
   answers P a b c d e =
-      cond-both P _ _ (rightTable f t)
-      (λ y. cond-both P _ _ (leb (length name) 64)
-      (λ h. cond-both P _ _ (known (kept f name) (namesOf t))
-      (λ k. c y (leb-true (length name) 64 h) k)
-      (λ k. cond-both P _ _ (ltb (countOf t) 256)
-      (λ r. e y (leb-true (length name) 64 h) k (ltb-true (countOf t) 256 r))
-      (λ r. d y (leb-true (length name) 64 h) k (ltb-false (countOf t) 256 r))))
-      (λ h. b y (leb-false (length name) 64 h)))
-      (λ n. a n)
+      cond-both P _ _ (non (rightTable f t)) (λ n. a (non-yes (rightTable f t) n))
+      (λ y. cond-both P _ _ (ltb 64 (length name)) (λ h. b (non-no (rightTable f t) y) (ltb-true 64 (length name) h))
+      (λ h. cond-both P _ _ (known (kept f name) (namesOf t)) (λ k. c (non-no (rightTable f t) y) (ltb-false 64 (length name) h) k)
+      (λ k. cond-both P _ _ (leb 256 (countOf t)) (λ r. d (non-no (rightTable f t) y) (ltb-false 64 (length name) h) k (leb-true 256 (countOf t) r))
+      (λ r. e (non-no (rightTable f t) y) (ltb-false 64 (length name) h) k (leb-false 256 (countOf t) r)))))
 
-  -- a known name's number
-  knows : Yes (rightTable f t) → length name ≤ 64 → Yes (known (kept f name) (namesOf t)) → numberOf f t name ≡ done (Known (placeOf (kept f name) (namesOf t))) t
-  unfolding numberOf
-  knows y h k = rw (y, le-leb (length name) 64 h, k)
+  -- a known name's number, in a full table too
+  pub knows : Yes (rightTable f t) → length name ≤ 64 → Yes (known (kept f name) (namesOf t)) → numberOf f t name ≡ done (Known (placeOf (kept f name) (namesOf t))) t
+  unfolding numberOf non
+  knows y h k = rw (y, le-ltb 64 (length name) h, k)
+
+  -- a new name that is short enough is learned while there is room, and only refused for want of it
+  pub learns : Yes (rightTable f t) → length name ≤ 64 → No (known (kept f name) (namesOf t)) → countOf t < 256 → numberOf f t name ≡ done (Learned (countOf t)) (learned t (kept f name))
+  unfolding numberOf non
+  learns y h k r = rw (y, le-ltb 64 (length name) h, k, lt-leb 256 (countOf t) r)
 
   short : length name ≤ 64 → length (kept f name) ≤ 64
   short h = omega (arith, kept-length f name)
@@ -84,8 +91,8 @@ module _ (f : Bool) (t name : List ℕ) where
 
 -- ---- a number's name
 entry-name : (f : Bool) (t : List ℕ) (i : ℕ) → Yes (rightTable f t) → i < countOf t → nameAt f t i ≡ nameOf (entryAt t i)
-unfolding nameAt
-entry-name f t i y h = rw (y, lt-ltb i (countOf t) h)
+unfolding nameAt non
+entry-name f t i y h = rw (y, lt-leb (countOf t) i h)
 
 name-place : (f : Bool) (t : List ℕ) (i : ℕ) → Yes (rightTable f t) → i < countOf t → nameAt f t i ≡ getD (namesOf t) i []
 unfolding namesOf
@@ -211,9 +218,8 @@ module _ (f : Bool) (t : List ℕ) (i s l : ℕ) where
   pub part-told : Told (placeAt f t i)
   unfolding placeAt
   part-told =
-      cond-both Told _ _ (rightTable f t)
-      (λ y. cond-both Told _ _ (ltb i (countOf t)) (λ h. there-it-is y (ltb-true i (countOf t) h)) (λ h e. absurd (let z : _≡_ {A = ℕ} 0 1 = cc in omega arith)))
-      (λ n e. absurd (let z : _≡_ {A = ℕ} 0 1 = cc in omega arith))
+      cond-both Told _ _ (non (rightTable f t)) (λ n e. absurd (let z : _≡_ {A = ℕ} 0 1 = cc in omega arith))
+      (λ y. cond-both Told _ _ (leb (countOf t) i) (λ h e. absurd (let z : _≡_ {A = ℕ} 0 1 = cc in omega arith)) (λ h. there-it-is (non-no (rightTable f t) y) (leb-false (countOf t) i h)))
 
 -- ---- a buffer of zeros is a right table with no names: where an adapter starts
 module _ (t : List ℕ) (l : length t ≡ 16642) (z : Yes (zeros t)) where

@@ -5,6 +5,7 @@ use mathlib.Core.Bool.{Bool, true, false, cond}
 use mathlib.Core.List.{List, [], _∷_}
 use lib.Dec.{leb, ltb}
 use lib.ListN.{length}
+use Rattle.lists.specs.Tests.{non}
 use Rattle.names.specs.declared.Named.{Named}
 use Rattle.names.specs.declared.Named.the-variants.{BadTable, NameTooLong, NamesFull, Known, Learned}
 use Rattle.names.specs.declared.NameAt.{NameAt}
@@ -23,15 +24,11 @@ done n t = record { told = n; table = t }
 -- a name's number: 27, 22, a known name's own, 23, the next
 unfoldable pub numberOf : Bool → List ℕ → List ℕ → Done
 numberOf folding t name =
-    cond (rightTable folding t)
-    (cond (leb (length name) 64)
-    (cond (known (kept folding name) (namesOf t))
-    (done (Known (placeOf (kept folding name) (namesOf t))) t)
-    (cond (ltb (countOf t) 256)
-    (done (Learned (countOf t)) (learned t (kept folding name)))
-    (done NamesFull t)))
-    (done NameTooLong t))
-    (done BadTable t)
+    cond (non (rightTable folding t)) (done BadTable t)
+    (cond (ltb 64 (length name)) (done NameTooLong t)
+    (cond (known (kept folding name) (namesOf t)) (done (Known (placeOf (kept folding name) (namesOf t))) t)
+    (cond (leb 256 (countOf t)) (done NamesFull t)
+    (done (Learned (countOf t)) (learned t (kept folding name))))))
 
 -- document 01's number of each answer; 0 where it is none of the refusals
 abbrev pub paperOf : Named → ℕ
@@ -59,11 +56,9 @@ isNew (Learned n) = true
 -- where the name of a number stands in the buffer
 unfoldable pub placeAt : Bool → List ℕ → ℕ → NameAt
 placeAt folding t number =
-    cond (rightTable folding t)
-    (cond (ltb number (countOf t))
-    (Found (entryStart number + 1) (lengthOf (entryAt t number)))
-    Nothing)
-    NoTable
+    cond (non (rightTable folding t)) NoTable
+    (cond (leb (countOf t) number) Nothing
+    (Found (entryStart number + 1) (lengthOf (entryAt t number))))
 
 -- document 01's number of that answer
 abbrev pub paperAt : NameAt → ℕ
@@ -73,4 +68,7 @@ paperAt (Found start len) = 0
 
 -- the name itself; nothing where there is none
 unfoldable pub nameAt : Bool → List ℕ → ℕ → List ℕ
-nameAt folding t number = cond (rightTable folding t) (cond (ltb number (countOf t)) (nameOf (entryAt t number)) []) []
+nameAt folding t number =
+    cond (non (rightTable folding t)) []
+    (cond (leb (countOf t) number) []
+    (nameOf (entryAt t number)))

@@ -59,7 +59,8 @@ fn right(told: Named, i: usize, new: bool) -> bool {
 }
 
 // An answer as document 01 has it: its number, and the name's number where there is one.
-fn tell(what: &[u8], told: Named) {
+fn say(table: &mut [u8], what: &[u8], name: &[u8], folding: bool) {
+    let told = names::number_of(table, name, folding);
     label(what, names::paper(told) as u64);
     match told {
         Named::Known(k) => label(b"  known", k as u64),
@@ -68,35 +69,30 @@ fn tell(what: &[u8], told: Named) {
     }
 }
 
-fn main() {
+// A table that folds: 256 names, each again, and what a full table and a spoiled one answer.
+fn units() {
     let mut table = [0u8; 16642];
     label(b"learned", ask(&mut table, 256, false, true));
     label(b"asked again", ask(&mut table, 256, true, false));
-    tell(b"one more:", names::number_of(&mut table, b"Gateway", true));
-    tell(
-        b"an old one:",
-        names::number_of(&mut table, b"ecu-200", true),
-    );
+    say(&mut table, b"one more:", b"Gateway", true);
+    say(&mut table, b"an old one:", b"ecu-200", true);
     io::write_all(STDOUT_FILENO, names::name_at(&table, 42, true));
     io::write_all(STDOUT_FILENO, b"\n");
-    tell(
-        b"65 bytes:",
-        names::number_of(&mut table, &[b'x'; 65], true),
-    );
+    say(&mut table, b"65 bytes:", &[b'x'; 65], true);
     table[16641] = 1;
-    tell(
-        b"a spoiled table:",
-        names::number_of(&mut table, b"ecu-200", true),
-    );
-    let mut subjects = [0u8; 16642];
-    tell(
-        b"a subject:",
-        names::number_of(&mut subjects, b"Tester", false),
-    );
-    tell(
-        b"in another case:",
-        names::number_of(&mut subjects, b"TESTER", false),
-    );
-    tell(b"no bytes:", names::number_of(&mut subjects, b"", false));
-    tell(b"again:", names::number_of(&mut subjects, b"Tester", false));
+    say(&mut table, b"a spoiled table:", b"ecu-200", true);
+}
+
+// A table that keeps the case.
+fn subjects() {
+    let mut table = [0u8; 16642];
+    say(&mut table, b"a subject:", b"Tester", false);
+    say(&mut table, b"in another case:", b"TESTER", false);
+    say(&mut table, b"no bytes:", b"", false);
+    say(&mut table, b"again:", b"Tester", false);
+}
+
+fn main() {
+    units();
+    subjects();
 }
