@@ -1,0 +1,6 @@
+-- The laws of specs/, for the proofs here and above.
+pub mod Numbers
+pub mod Layouts
+pub mod Codecs
+pub mod Table
+pub mod Framing

@@ -1,0 +1,5 @@
+pub mod Numbers
+pub mod Layouts
+pub mod Codecs
+pub mod Table
+pub mod Framing
