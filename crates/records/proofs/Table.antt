@@ -4,15 +4,15 @@ use mathlib.Core.Bool.{Bool, true, false}
 use mathlib.Core.List.{List}
 use mathlib.Core.Option.{Option, none, some}
 use Prim.Native.Nat.{ℕ, _+_, _-_, _*_, _/_, _^_, _≤_, _<_}
-use native.Mathlib.Nat.{div-zero, zero-div, le-of-lt, mul-le-mul}
+use native.Mathlib.Nat.{div-zero, zero-div, le-of-lt, mul-le-mul, mul-div-right, zero-mul}
 use native.Mathlib.Omega.{arith}
 use lib.ListN.{length, getD}
 use lib.Seq.{slice}
 use lib.Dec.{eqb, leb, ltb}
-use borrow.Author.Tests.{le-leb, lt-leb, eq-eqb, ne-eqb, eqb-true, leb-true, ltb-true}
+use borrow.Author.Tests.{le-leb, lt-leb, eq-eqb, ne-eqb, eqb-true, leb-true, ltb-true, ltb-false}
 use Rattle.lists.specs.Tests.{_and_}
 use Rattle.lists.specs.Lists.{all, find, ascending, Mem}
-use Rattle.lists.proofs.Tests.{and-t, and-f, and-l, and-r}
+use Rattle.lists.proofs.Tests.{and-t, and-f, and-l, and-r, and-i, by}
 use Rattle.lists.proofs.Lists.{all→, find→, find-key}
 use Rattle.lists.proofs.Loops.{find-yes, find-no, find-end}
 use Rattle.records.specs.declared.kinds.Kind.{Kind}
@@ -47,7 +47,7 @@ module _ (k : ℕ) where
 
 -- ---- the table's rule: one test, which antt computes over all rows
 sane : Kind → Bool
-sane r = leb 2 (r .base) and ltb (r .base + r .unit * 64) (2 ^ 16)
+sane r = leb 2 (r .base) and ltb (r .base + r .unit * 64) (2 ^ 16) and ltb (r .kind) (2 ^ 16)
 
 all-sane : all sane rows ≡ true
 unfolding rows sane _and_
@@ -61,23 +61,27 @@ known : (o : Option Kind) (r : Kind) → asRow o ≡ Known r → o ≡ some r
 known (some x) r e = cc
 known none r e = absurd (let z : _≡_ {A = ℕ} 0 1 = cc in omega arith)
 
--- of a kind that is known: its row is in the table, holds its number, and every length of the kind is a u16 that counts the kind
+-- of a kind that is known: its row is in the table and holds its number; number and lengths are u16, and a length counts the kind
 pub record Rule (k : ℕ) (r : Kind) : Type 0 where
   pub listed : Mem r rows
   pub number : r .kind ≡ k
   pub counts : 2 ≤ r .base
   pub short : r .base + r .unit * 64 < 2 ^ 16
+  pub small : k < 2 ^ 16
 
 pub rule : (k : ℕ) (r : Kind) → rowOf k ≡ Known r → Rule k r
 unfolding rowOf sane
 rule k r e =
     let f = find→ (isKind k) rows (known (find (isKind k) rows) r e) in
     let t = all→ sane all-sane (f .0) in
+    let u = and-l (leb 2 (r .base) and ltb (r .base + r .unit * 64) (2 ^ 16)) _ t in
+    let q : r .kind ≡ k = eqb-true _ _ (f .1) in
     record {
       listed = f .0;
-      number = eqb-true _ _ (f .1);
-      counts = leb-true _ _ (and-l (leb 2 (r .base)) _ t);
-      short = ltb-true _ _ (and-r (leb 2 (r .base)) _ t);
+      number = q;
+      counts = leb-true _ _ (and-l (leb 2 (r .base)) _ u);
+      short = ltb-true _ _ (and-r (leb 2 (r .base)) _ u);
+      small = subst (λ (m : ℕ). m < 2 ^ 16) q (ltb-true _ _ (and-r (leb 2 (r .base) and ltb (r .base + r .unit * 64) (2 ^ 16)) _ t));
     }
 
 -- each row of the table is the one of its kind
@@ -115,3 +119,26 @@ module _ (r : Kind) (n : ℕ) where
   pub length-of : possible r n ≡ true → Length
   unfolding possible
   length-of t = record { most = leb-true _ _ (and-l (leb (unitsIn r n) 64) _ t); sum = eqb-true _ _ (and-r (leb (unitsIn r n) 64) _ t) }
+
+-- 01: the base, and the unit "for each of 0..=64": each such sum is a length of the kind, and `Length` says that no other number is
+module _ (r : Kind) (m : ℕ) where
+  units-back : r .unit * unitsIn r (r .base + r .unit * m) ≡ r .unit * m
+  unfolding unitsIn
+  units-back =
+      let e : r .base + r .unit * m - r .base ≡ r .unit * m = omega arith in
+      by (ltb 0 (r .unit)) (r .unit * ((r .base + r .unit * m - r .base) / r .unit) ≡ r .unit * m)
+      (λ t. ap (λ (x : ℕ). r .unit * (x / r .unit)) e ∙ ap (λ (x : ℕ). r .unit * x) (mul-div-right m (ltb-true _ _ t)))
+      (λ t. let z : r .unit ≡ 0 = omega (arith, ltb-false 0 (r .unit) t) in rw z (zero-mul _ ∙ sym (zero-mul m)))
+
+  pub units-sum : 0 < r .unit → unitsIn r (r .base + r .unit * m) ≡ m
+  unfolding unitsIn
+  units-sum h = ap (λ (x : ℕ). x / r .unit) (let z : r .base + r .unit * m - r .base ≡ r .unit * m = omega arith in z) ∙ mul-div-right m h
+
+  pub possible-sum : m ≤ 64 → possible r (r .base + r .unit * m) ≡ true
+  unfolding possible
+  possible-sum h = and-i _ _ (le-leb _ _ few) (eq-eqb _ _ (ap (λ (x : ℕ). r .base + x) units-back))
+    where
+      few : unitsIn r (r .base + r .unit * m) ≤ 64
+      few = by (ltb 0 (r .unit)) (unitsIn r (r .base + r .unit * m) ≤ 64)
+          (λ t. omega (arith, units-sum (ltb-true 0 (r .unit) t)))
+          (λ t. omega (arith, units-none r (r .base + r .unit * m) (omega (arith, ltb-false 0 (r .unit) t))))

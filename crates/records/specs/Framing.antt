@@ -1,7 +1,7 @@
 -- The frame of a record. Assumes nothing.
 use Prim.Native.Nat.{ℕ, _+_, _-_}
 use mathlib.Core.Bool.{Bool, cond}
-use mathlib.Core.List.{List, [], _∷_}
+use mathlib.Core.List.{List, [], _∷_, _++_}
 use lib.ListN.{length}
 use lib.Dec.{eqb, ltb}
 use Rattle.lists.specs.Tests.{non}
@@ -11,7 +11,7 @@ use Rattle.records.specs.declared.kinds.Row.the-variants.{Known, Unknown
 use Rattle.records.specs.declared.frame.Frame.{Frame}
 use Rattle.records.specs.declared.frame.Framed.{Framed}
 use Rattle.records.specs.declared.frame.Framed.the-variants.{Torn, BadKind, BadField, Record}
-use Rattle.records.specs.Numbers.{little, field}
+use Rattle.records.specs.Numbers.{little, field, bytesOf}
 use Rattle.records.specs.Table.{rowOf, unitsIn, possible}
 
 -- of a record at `at` that has the length n: kind (u16) and body follow the length (u16), and the length counts both
@@ -36,6 +36,10 @@ unfoldable pub frameAt : List ℕ → ℕ → ℕ → Framed
 frameAt s at due =
     cond (ltb (length s - at) 4) (Torn at)
     (frameBy (rowOf (field (little 2) s (at + 2))) (field (little 2) s at) at (length s - at) due)
+
+-- 01: "A record is a length (u16, bytes after itself), a kind (u16), a body"
+unfoldable pub recordOf : ℕ → List ℕ → List ℕ
+recordOf k b = bytesOf (little 2) (length b + 2) ++ (bytesOf (little 2) k ++ b)
 
 -- 01's number of each case and its values: of a refusal, the offset; of a record, 0 and the frame
 abbrev pub paperOf : Framed → List ℕ

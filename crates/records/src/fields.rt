@@ -1,4 +1,5 @@
 // Numbers in bytes: readers and writers at an offset of a slice. Each width is two of the half width.
+// SPDX-License-Identifier: Apache-2.0
 ghost use mathlib.Core.Path.{_≡_};
 ghost use Prim.Native.Nat.{_+_, _≤_};
 ghost use lib.ListN.{length};

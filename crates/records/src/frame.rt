@@ -1,4 +1,5 @@
 // The frame of a record: its length, its kind, and where its body stands.
+// SPDX-License-Identifier: Apache-2.0
 ghost use mathlib.Core.Path.{_≡_};
 ghost use Prim.Native.Nat.{_+_, _≤_, _<_, _^_};
 ghost use Rattle.records.specs.Framing.{frameAt, frameOf};

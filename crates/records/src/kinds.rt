@@ -1,4 +1,5 @@
 // The kinds of records and their lengths: one table for the reader of images, the reader of feeds and the writer.
+// SPDX-License-Identifier: Apache-2.0
 ghost use mathlib.Core.Path.{_≡_};
 ghost use Rattle.records.specs.Table.{rowOf, unitsIn, possible};
 

@@ -1,4 +1,5 @@
 // Records: numbers in bytes, the table of kinds, framing.
+// SPDX-License-Identifier: Apache-2.0
 pub mod fields;
 pub mod frame;
 pub mod kinds;

@@ -30,7 +30,8 @@ same-length c = search needs
 returns : tie.Need-returns
 returns c =
     let a = c .before .before .before .before .before .before .before .before .before .args in
-    cc (big-put 1 1 (now (a .out)) (a .at) (a .v) (omega (arith, c .before .before .before .before .before .before .before .before .before .pre)), put-one-big (a .v / 256), put-one-big (a .v % 256))
+    rw (c .before .before .put-u82 .ensures, c .before .before .before .before .before .before .put-u8 .ensures, put-one-big (a .v / 256), put-one-big (a .v % 256))
+    (big-put 1 1 (now (a .out)) (a .at) (a .v) (omega (arith, c .before .before .before .before .before .before .before .before .before .pre)))
 
 pub put-big16-spec : {M : Type 1} → statement M
 put-big16-spec =

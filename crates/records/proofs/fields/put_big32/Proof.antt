@@ -29,7 +29,8 @@ same-length c = search needs
 returns : tie.Need-returns
 returns c =
     let a = c .before .before .before .before .before .before .before .before .before .args in
-    cc (big-put 2 2 (now (a .out)) (a .at) (a .v) (omega (arith, c .before .before .before .before .before .before .before .before .before .pre)))
+    rw (c .before .before .put-big162 .ensures, c .before .before .before .before .before .before .put-big16 .ensures)
+    (big-put 2 2 (now (a .out)) (a .at) (a .v) (omega (arith, c .before .before .before .before .before .before .before .before .before .pre)))
 
 pub put-big32-spec : {M : Type 1} → statement M
 put-big32-spec =

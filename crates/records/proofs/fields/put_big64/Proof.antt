@@ -29,7 +29,8 @@ same-length c = search needs
 returns : tie.Need-returns
 returns c =
     let a = c .before .before .before .before .before .before .before .before .before .args in
-    cc (big-put 4 4 (now (a .out)) (a .at) (a .v) (omega (arith, c .before .before .before .before .before .before .before .before .before .pre)))
+    rw (c .before .before .put-big322 .ensures, c .before .before .before .before .before .before .put-big32 .ensures)
+    (big-put 4 4 (now (a .out)) (a .at) (a .v) (omega (arith, c .before .before .before .before .before .before .before .before .before .pre)))
 
 pub put-big64-spec : {M : Type 1} → statement M
 put-big64-spec =

@@ -29,7 +29,8 @@ same-length c = search needs
 returns : tie.Need-returns
 returns c =
     let a = c .before .before .before .before .before .before .before .before .before .args in
-    cc (little-put 1 1 (now (a .out)) (a .at) (a .v) (omega (arith, c .before .before .before .before .before .before .before .before .before .pre)))
+    rw (c .before .before .put-u82 .ensures, c .before .before .before .before .before .before .put-u8 .ensures)
+    (little-put 1 1 (now (a .out)) (a .at) (a .v) (omega (arith, c .before .before .before .before .before .before .before .before .before .pre)))
 
 pub put-u16-spec : {M : Type 1} → statement M
 put-u16-spec =

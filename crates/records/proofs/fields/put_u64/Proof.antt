@@ -29,7 +29,8 @@ same-length c = search needs
 returns : tie.Need-returns
 returns c =
     let a = c .before .before .before .before .before .before .before .before .before .args in
-    cc (little-put 4 4 (now (a .out)) (a .at) (a .v) (omega (arith, c .before .before .before .before .before .before .before .before .before .pre)))
+    rw (c .before .before .put-u322 .ensures, c .before .before .before .before .before .before .put-u32 .ensures)
+    (little-put 4 4 (now (a .out)) (a .at) (a .v) (omega (arith, c .before .before .before .before .before .before .before .before .before .pre)))
 
 pub put-u64-spec : {M : Type 1} → statement M
 put-u64-spec =
