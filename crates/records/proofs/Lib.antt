@@ -4,3 +4,4 @@ pub mod Layouts
 pub mod Codecs
 pub mod Table
 pub mod Framing
+pub mod Wire
