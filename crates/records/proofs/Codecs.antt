@@ -38,7 +38,7 @@ module _ {R A : Type 0} (c : Codec R) (good : R → A) (bad : A) where
   pub decode-encode : Lawful c → (r : R) → Fit (c .layout) (c .numbers r) → Yes (c .right (c .numbers r)) → decodeBy c good bad (encodeBy c r) ≡ good r
   decode-encode w r k t =
       let e : inBody c (encodeBy c r) ≡ c .numbers r = fields-pack (c .layout) (c .numbers r) k in
-      sym (is-good (encodeBy c r) r (length-pack (c .layout) (c .numbers r) k) (ap (c .right) e ∙ t) (sym (ap (c .made) e ∙ w .there r)))
+      sym (is-good (encodeBy c r) r (length-pack (c .layout) (c .numbers r) (w .count r)) (ap (c .right) e ∙ t) (sym (ap (c .made) e ∙ w .there r)))
 
   -- what was accepted: length and numbers are right
   pub accepted : (s : List ℕ) (a : A) → (bad ≡ a → ⊥) → decodeBy c good bad s ≡ a

@@ -10,13 +10,21 @@ use Rattle.records.specs.Numbers.{part, splice, Field, size, valueOf, by
 use Rattle.records.specs.Layouts.{total, fieldsAt, pack, emit, Fit}
 use Rattle.records.proofs.Numbers.{Bytes, bytes-part, length-part, part-add, part-splice, splice-splice, length-splice, splice-part, length-bytesOf, value-bytes, bytes-value, value-lt}
 
-pub length-pack : (fs : List Field) (vs : List ℕ) → Fit fs vs → length (pack fs vs) ≡ total fs
+-- as many numbers as fields
+pub fit-count : (fs : List Field) (vs : List ℕ) → Fit fs vs → length vs ≡ length fs
+fit-count [] [] k = refl
+fit-count [] (v ∷ vs) k = absurd k
+fit-count (f ∷ fs) [] k = absurd k
+fit-count (f ∷ fs) (v ∷ vs) k = ap suc (fit-count fs vs (k .1))
+
+pub length-pack : (fs : List Field) (vs : List ℕ) → length vs ≡ length fs → length (pack fs vs) ≡ total fs
 unfolding pack
-length-pack [] [] k = refl
-length-pack [] (v ∷ vs) k = absurd k
-length-pack (f ∷ fs) [] k = absurd k
+length-pack [] vs k = refl
+length-pack (f ∷ fs) [] k = absurd (omega arith)
 length-pack (f ∷ fs) (v ∷ vs) k =
-    length-append (bytesOf f v) (pack fs vs) ∙ ap (λ (n : ℕ). n + length (pack fs vs)) (length-bytesOf f v) ∙ ap (λ (n : ℕ). size f + n) (length-pack fs vs (k .1))
+    length-append (bytesOf f v) (pack fs vs)
+    ∙ ap (λ (n : ℕ). n + length (pack fs vs)) (length-bytesOf f v)
+    ∙ ap (λ (n : ℕ). size f + n) (length-pack fs vs (omega arith))
 
 -- numbers to bytes to numbers
 pub fields-in : (fs : List Field) (vs p q : List ℕ) (at : ℕ) → Fit fs vs → length p ≡ at → fieldsAt fs (p ++ (pack fs vs ++ q)) at ≡ vs
@@ -56,16 +64,15 @@ fields-fit (f ∷ fs) s at k h =
     (value-lt f (part s at (size f)) (bytes-part s at (size f) k) (length-part s at (size f) (omega arith)), fields-fit fs s (at + size f) k (omega arith))
 
 -- stores one after the other are one splice
-pub emit-pack : (fs : List Field) (vs d : List ℕ) (at : ℕ) → Fit fs vs → at + total fs ≤ length d → emit fs vs d at ≡ splice d at (pack fs vs)
+pub emit-pack : (fs : List Field) (vs d : List ℕ) (at : ℕ) → length vs ≡ length fs → at + total fs ≤ length d → emit fs vs d at ≡ splice d at (pack fs vs)
 unfolding pack
-emit-pack [] [] d at k h = sym (splice-part d at 0 h)
-emit-pack [] (v ∷ vs) d at k h = absurd k
-emit-pack (f ∷ fs) [] d at k h = absurd k
+emit-pack [] vs d at k h = sym (splice-part d at 0 h)
+emit-pack (f ∷ fs) [] d at k h = absurd (omega arith)
 emit-pack (f ∷ fs) (v ∷ vs) d at k h =
     let lb : length (bytesOf f v) ≡ size f = length-bytesOf f v in
-    let lp : length (pack fs vs) ≡ total fs = length-pack fs vs (k .1) in
+    let lp : length (pack fs vs) ≡ total fs = length-pack fs vs (omega arith) in
     let ls : length (splice d at (bytesOf f v)) ≡ length d = length-splice d at (bytesOf f v) (omega arith) in
-    emit-pack fs vs (splice d at (bytesOf f v)) (at + size f) (k .1) (omega arith)
+    emit-pack fs vs (splice d at (bytesOf f v)) (at + size f) (omega arith) (omega arith)
     ∙ splice-splice d at (size f) (bytesOf f v) (pack fs vs) lb (omega arith)
 
 -- a part of a part

@@ -6,7 +6,7 @@ use lib.ListN.{length, take, drop}
 use lib.Dec.{eqb}
 use Rattle.lists.specs.Tests.{_and_}
 use Rattle.records.specs.Numbers.{Field}
-use Rattle.records.specs.Layouts.{total, fieldsAt, pack}
+use Rattle.records.specs.Layouts.{total, fieldsAt, pack, emit}
 
 -- the fields of a body; the record that their numbers make; a record's numbers; which numbers are right
 pub record Codec (R : Type 0) : Type 0 where
@@ -25,6 +25,10 @@ decodeBy c good bad s = cond (eqb (length s) (total (c .layout)) and c .right (i
 
 abbrev pub encodeBy : {R : Type 0} → Codec R → R → List ℕ
 encodeBy c r = pack (c .layout) (c .numbers r)
+
+-- d after n of the fields, from the k-th on, were stored one after the other from at
+abbrev pub putFields : {R : Type 0} → Codec R → ℕ → ℕ → R → List ℕ → ℕ → List ℕ
+putFields c k n r d at = emit (take n (drop k (c .layout))) (take n (drop k (c .numbers r))) d at
 
 -- a body that is one of a, then one of b
 abbrev pub joined : {A B R : Type 0} → Codec A → Codec B → (A → B → R) → (R → A) → (R → B) → Codec R

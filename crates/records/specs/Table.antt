@@ -51,3 +51,11 @@ unitsIn r n = (n - r .base) / r .unit
 -- a length that the kind can have: the base, and the unit for each of 0..=64
 unfoldable pub possible : Kind → ℕ → Bool
 possible r n = leb (unitsIn r n) 64 and eqb (r .base + r .unit * unitsIn r n) n
+
+-- the base of a kind: what a record without units has as its length; 0 where there is no such kind
+abbrev pub baseIn : Row → ℕ
+baseIn (Known r) = r .base
+baseIn Unknown = 0
+
+unfoldable pub lengthOf : ℕ → ℕ
+lengthOf k = baseIn (rowOf k)

@@ -1,7 +1,7 @@
 // The kinds of records and their lengths: one table for the reader of images, the reader of feeds and the writer.
 // SPDX-License-Identifier: Apache-2.0
 ghost use mathlib.Core.Path.{_≡_};
-ghost use Rattle.records.specs.Table.{rowOf, unitsIn, possible};
+ghost use Rattle.records.specs.Table.{rowOf, unitsIn, possible, lengthOf};
 
 // The places where a kind can be due: one for each kind of an image, one for all kinds of a feed.
 pub const AT_HEAD: u8 = 1;
@@ -133,4 +133,14 @@ pub fn possible(row: Kind, n: u16) -> bool
         return false;
     }
     (row.base as u32) + (row.unit as u32) * (units as u32) == n as u32
+}
+
+// The length of a record of this kind without units, 0 where there is no such kind.
+pub fn length_of(kind: u16) -> u16
+    ensures { λ r. ⌜ r ≡ lengthOf kind ⌝ }
+{
+    match row_of(kind) {
+        Row::Known(row) => row.base,
+        Row::Unknown => 0,
+    }
 }

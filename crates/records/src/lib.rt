@@ -4,3 +4,4 @@ pub mod bodies;
 pub mod fields;
 pub mod frame;
 pub mod kinds;
+pub mod writing;
