@@ -3,17 +3,17 @@
 use mathlib.Core.Path.{_≡_, refl, sym, ap, ap₂, _∙_, subst}
 use mathlib.Core.Bool.{Bool, true, false, cond}
 use mathlib.Core.List.{List, [], _∷_, _++_}
-use Prim.Native.Nat.{ℕ, _+_, _≤_, _<_}
+use Prim.Native.Nat.{ℕ, _+_, _*_, _≤_, _<_}
 use native.Mathlib.Omega.{arith}
 use lib.ListN.{length, take, drop, length-append}
 use lib.Seq.{take-all, take-at, drop-at}
 use lib.Dec.{eqb}
 use borrow.Author.Tests.{eq-eqb, ne-eqb, eqb-true}
 use Rattle.lists.specs.Tests.{_and_, Yes, No}
-use Rattle.lists.proofs.Tests.{and-i, and-l, and-r, and-t, and-f, by, cond-true, cond-false}
+use Rattle.lists.proofs.Tests.{and-i, and-l, and-r, and-t, and-f, and-comm, by, cond-true, cond-false}
 use Rattle.records.specs.Numbers.{Field, size, field}
 use Rattle.records.specs.Layouts.{total, fieldsAt, pack, Fit}
-use Rattle.records.specs.Codecs.{Codec, inBody, decodeBy, encodeBy, joined}
+use Rattle.records.specs.Codecs.{Codec, inBody, decodeBy, encodeBy, joined, counted, decodeCounted}
 use Rattle.records.proofs.Numbers.{Bytes}
 use Rattle.records.proofs.Layouts.{length-pack, fields-pack, pack-fields, fields-fit, fields-append, length-fields, fit-append}
 
@@ -106,3 +106,15 @@ module _ {A B R : Type 0} (a : Codec A) (b : Codec B) (make : A → B → R) (fi
               ∙ ap₂ (λ (x y : List ℕ). x ++ y) (w .back s at ta) (v .back s (at + total (a .layout)) tb)
               ∙ sym (fields-append (a .layout) (b .layout) s at);
         }
+
+-- ---- a body that ends in a count, with 16 bytes for each id after it
+module _ {R A : Type 0} (c : Codec R) (good : R → A) (bad : A) (s : List ℕ) where
+  pub is-miscounted : (length s ≡ total (counted c .layout) + counted c .made (inBody (counted c) s) .1 * 16 → ⊥) → bad ≡ decodeCounted c good bad s
+  is-miscounted h = sym (cond-false _ _ _ (and-f _ (counted c .right (inBody (counted c) s)) (ne-eqb _ _ h)))
+
+  pub is-counted : (r : R) → length s ≡ total (counted c .layout) + counted c .made (inBody (counted c) s) .1 * 16
+      → Yes (counted c .right (inBody (counted c) s)) → r ≡ counted c .made (inBody (counted c) s) .0 → good r ≡ decodeCounted c good bad s
+  is-counted r h t e = ap good e ∙ sym (cond-true _ _ _ (and-i _ _ (eq-eqb _ _ h) t))
+
+  pub is-wrong-counted : No (counted c .right (inBody (counted c) s)) → bad ≡ decodeCounted c good bad s
+  is-wrong-counted t = sym (cond-false _ _ _ (and-comm _ _ ∙ and-f (counted c .right (inBody (counted c) s)) _ t))

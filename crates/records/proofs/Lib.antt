@@ -6,3 +6,4 @@ pub mod Table
 pub mod Framing
 pub mod Wire
 pub mod Storing
+pub mod Feeds

@@ -47,7 +47,7 @@ pub head-right : (s : List ℕ) (h : Head) → h ≡ head .made (inBody head s) 
 head-right s h e = sym (ap (λ (x : Head). leb (x .actives) 64 && leb (x .defuncts) 128) e ∙ and-code _ _)
 
 -- ---- flags and scopes, there and back
-flag-there : (b : Bool) → eqb (flag b) 1 ≡ b
+pub flag-there : (b : Bool) → eqb (flag b) 1 ≡ b
 flag-there true = refl
 flag-there false = refl
 
@@ -55,7 +55,7 @@ unset-there : (b : Bool) → eqb (flag (not b)) 0 ≡ b
 unset-there true = refl
 unset-there false = refl
 
-flag-back : (x : ℕ) → x ≤ 1 → flag (eqb x 1) ≡ x
+pub flag-back : (x : ℕ) → x ≤ 1 → flag (eqb x 1) ≡ x
 flag-back x h = by (eqb x 1) (flag (eqb x 1) ≡ x)
     (λ t. ap flag t ∙ sym (eqb-true x 1 t))
     (λ t. ap flag t ∙ (let z : 0 ≡ x = omega (arith, eqb-false x 1 t) in z))
