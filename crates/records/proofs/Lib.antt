@@ -7,3 +7,6 @@ pub mod Framing
 pub mod Wire
 pub mod Storing
 pub mod Feeds
+pub mod Trips
+pub mod Sets
+pub mod Examples

@@ -76,31 +76,35 @@ replacementRest r = (r .breaker, r .broken)
 abbrev pub replacement : Codec Replacement
 replacement = joined active breaking replacementWith (λ r. r .lock) replacementRest
 
+-- a sequence and what is asked under it
+abbrev pub asked : {R : Type 0} → (R → Request) → ℕ × R → Asked
+asked ask p = Good (p .0) (ask (p .1))
+
 -- "16 ACTIVE body; 17 ACTIVE body, count 2, ids; 18 id, expiry 8, now 8, has-metadata 1, metadata 4; 19 and 22 id; 20 id,
 -- now 8; 21 ACTIVE body, broken by 4, broken at 8, count 2, ids; 23 now 8"
 abbrev pub insertOf : List ℕ → Asked
-insertOf = decodeBy (numbered active) (λ p. Good (p .0) (Insert (p .1))) BadField
+insertOf = decodeBy (numbered active) (asked Insert) BadField
 
 abbrev pub insertVehicleOf : List ℕ → Asked
-insertVehicleOf = decodeCounted (numbered active) (λ p. Good (p .0) (InsertVehicle (p .1))) BadField
+insertVehicleOf = decodeCounted (numbered active) (asked InsertVehicle) BadField
 
 abbrev pub renewOf : List ℕ → Asked
-renewOf = decodeBy (numbered renewal) (λ p. Good (p .0) (Renew (p .1))) BadField
+renewOf = decodeBy (numbered renewal) (asked Renew) BadField
 
 abbrev pub deleteOf : List ℕ → Asked
-deleteOf = decodeBy (numbered target) (λ p. Good (p .0) (Delete (p .1))) BadField
+deleteOf = decodeBy (numbered target) (asked Delete) BadField
 
 abbrev pub beginExpirationOf : List ℕ → Asked
-beginExpirationOf = decodeBy (numbered expiration) (λ p. Good (p .0) (BeginExpiration (p .1))) BadField
+beginExpirationOf = decodeBy (numbered expiration) (asked BeginExpiration) BadField
 
 abbrev pub replaceOf : List ℕ → Asked
-replaceOf = decodeCounted (numbered replacement) (λ p. Good (p .0) (Replace (p .1))) BadField
+replaceOf = decodeCounted (numbered replacement) (asked Replace) BadField
 
 abbrev pub acknowledgeOf : List ℕ → Asked
-acknowledgeOf = decodeBy (numbered target) (λ p. Good (p .0) (Acknowledge (p .1))) BadField
+acknowledgeOf = decodeBy (numbered target) (asked Acknowledge) BadField
 
 abbrev pub expireDefunctOf : List ℕ → Asked
-expireDefunctOf = decodeBy (numbered (number 8)) (λ p. Good (p .0) (ExpireDefunct (p .1))) BadField
+expireDefunctOf = decodeBy (numbered (number 8)) (asked ExpireDefunct) BadField
 
 unfoldable pub requestOf : ℕ → List ℕ → Asked
 requestOf k s =

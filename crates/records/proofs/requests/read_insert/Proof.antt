@@ -1,10 +1,10 @@
 use mathlib.Core.Path.{refl, sym, ap, ap₂, _∙_}
 use denote.Ref.{now}
-use Rattle.records.specs.declared.requests.Asked.the-variants.{Good, BadField}
+use Rattle.records.specs.declared.requests.Asked.the-variants.{BadField}
 use Rattle.records.specs.Codecs.{pair, number}
 use Rattle.records.specs.declared.requests.Request.the-variants.{Insert}
 use Rattle.records.specs.Wire.{active}
-use Rattle.records.specs.Feeds.{numbered}
+use Rattle.records.specs.Feeds.{asked, numbered}
 use Rattle.records.proofs.Codecs.{is-short, is-good, is-wrong}
 use Rattle.records.proofs.Feeds.{active-part, insert-right}
 use borrow.Author.Needs.{needs}
@@ -18,7 +18,7 @@ use Rattle.records.proofs.fields.u32_at.Reads as u32-at-reads
 
 -- src/requests.rt:54:9
 returns : tie.Need-returns
-returns c = is-short (numbered active) (λ p. Good (p .0) (Insert (p .1))) BadField (now (c .before .before .args .s)) (c .if1 .taken)
+returns c = is-short (numbered active) (asked Insert) BadField (now (c .before .before .args .s)) (c .if1 .taken)
 
 -- src/requests.rt:56:16
 sub-body : tie.Need-sub-body
@@ -48,14 +48,14 @@ u32-at-requires c κs = search needs
 returns-2 : tie.Need-returns-2
 returns-2 c =
     let s = now (c .before .before .before .before .before .before .before .args .s) in
-    is-good (numbered active) (λ p. Good (p .0) (Insert (p .1))) BadField s _ (c .before .before .before .before .before .if1 .left) (insert-right s ∙ sym (c .before .before .before .active-right .ensures) ∙ c .before .before .if2 .taken)
+    is-good (numbered active) (asked Insert) BadField s _ (c .before .before .before .before .before .if1 .left) (insert-right s ∙ sym (c .before .before .before .active-right .ensures) ∙ c .before .before .if2 .taken)
     (ap₂ pair (c .u32-at .ensures) (c .before .active-made .ensures ∙ ap (active .made) (sym (active-part s))))
 
 -- src/requests.rt:50:1
 returns-3 : tie.Need-returns-3
 returns-3 c =
     let s = now (c .before .before .before .before .before .args .s) in
-    is-wrong (numbered active) (λ p. Good (p .0) (Insert (p .1))) BadField s (c .before .before .before .if1 .left) (insert-right s ∙ sym (c .before .active-right .ensures) ∙ c .if2 .left)
+    is-wrong (numbered active) (asked Insert) BadField s (c .before .before .before .if1 .left) (insert-right s ∙ sym (c .before .active-right .ensures) ∙ c .if2 .left)
 
 pub read-insert-spec : {M : Type 1} → statement M
 read-insert-spec =

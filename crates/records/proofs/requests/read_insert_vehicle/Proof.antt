@@ -1,11 +1,11 @@
 use mathlib.Core.Path.{refl, sym, ap, ap₂, _∙_}
 use denote.Ref.{now}
-use Rattle.records.specs.declared.requests.Asked.the-variants.{Good, BadField}
+use Rattle.records.specs.declared.requests.Asked.the-variants.{BadField}
 use Rattle.records.specs.Codecs.{pair, number}
 use Rattle.records.specs.declared.requests.Request.the-variants.{InsertVehicle}
 use native.Mathlib.Omega.{arith}
 use Rattle.records.specs.Wire.{active}
-use Rattle.records.specs.Feeds.{numbered}
+use Rattle.records.specs.Feeds.{asked, numbered}
 use Rattle.records.proofs.Codecs.{is-miscounted, is-counted, is-wrong-counted}
 use Rattle.records.proofs.Feeds.{active-part, vehicle-right}
 use borrow.Author.Needs.{needs}
@@ -20,7 +20,7 @@ use Rattle.records.proofs.fields.u32_at.Reads as u32-at-reads
 
 -- src/requests.rt:69:9
 returns : tie.Need-returns
-returns c = is-miscounted (numbered active) (λ p. Good (p .0) (InsertVehicle (p .1))) BadField (now (c .before .before .args .s)) (λ e. omega (arith, e, c .if1 .taken))
+returns c = is-miscounted (numbered active) (asked InsertVehicle) BadField (now (c .before .before .args .s)) (λ e. omega (arith, e, c .if1 .taken))
 
 -- src/requests.rt:71:8
 sub-if2 : tie.Need-sub-if2
@@ -41,7 +41,7 @@ mul-if2 c = search needs
 -- src/requests.rt:72:9
 returns-2 : tie.Need-returns-2
 returns-2 c =
-    is-miscounted (numbered active) (λ p. Good (p .0) (InsertVehicle (p .1))) BadField (now (c .before .before .before .before .args .s))
+    is-miscounted (numbered active) (asked InsertVehicle) BadField (now (c .before .before .before .before .args .s))
     (λ e. c .if2 .taken (omega (arith, e, c .before .u16-at .ensures)))
 
 -- src/requests.rt:74:16
@@ -72,7 +72,7 @@ u32-at-requires c κs = search needs
 returns-3 : tie.Need-returns-3
 returns-3 c =
     let s = now (c .before .before .before .before .before .before .before .before .before .args .s) in
-    is-counted (numbered active) (λ p. Good (p .0) (InsertVehicle (p .1))) BadField s _ (omega (arith, c .before .before .before .before .before .if2 .left, c .before .before .before .before .before .before .before .if1 .left, c .before .before .before .before .before .before .u16-at .ensures))
+    is-counted (numbered active) (asked InsertVehicle) BadField s _ (omega (arith, c .before .before .before .before .before .if2 .left, c .before .before .before .before .before .before .before .if1 .left, c .before .before .before .before .before .before .u16-at .ensures))
     (vehicle-right s ∙ sym (c .before .before .before .active-right .ensures) ∙ c .before .before .if3 .taken)
     (ap₂ pair (c .u32-at .ensures) (c .before .active-made .ensures ∙ ap (active .made) (sym (active-part s))))
 
@@ -80,7 +80,7 @@ returns-3 c =
 returns-4 : tie.Need-returns-4
 returns-4 c =
     let s = now (c .before .before .before .before .before .before .before .args .s) in
-    is-wrong-counted (numbered active) (λ p. Good (p .0) (InsertVehicle (p .1))) BadField s (vehicle-right s ∙ sym (c .before .active-right .ensures) ∙ c .if3 .left)
+    is-wrong-counted (numbered active) (asked InsertVehicle) BadField s (vehicle-right s ∙ sym (c .before .active-right .ensures) ∙ c .if3 .left)
 
 pub read-insert-vehicle-spec : {M : Type 1} → statement M
 read-insert-vehicle-spec =

@@ -1,12 +1,12 @@
 use mathlib.Core.Path.{refl, sym, ap, ap₂, _∙_}
 use denote.Ref.{now}
-use Rattle.records.specs.declared.requests.Asked.the-variants.{Good, BadField}
+use Rattle.records.specs.declared.requests.Asked.the-variants.{BadField}
 use Rattle.records.specs.Codecs.{pair, number}
 use lib.Dec.{eqb}
 use Prim.Native.Nat.{ℕ}
 use Rattle.lists.proofs.Tests.{and-t}
 use Rattle.records.specs.declared.requests.Request.the-variants.{Renew}
-use Rattle.records.specs.Feeds.{numbered, renewal, metadataRight}
+use Rattle.records.specs.Feeds.{asked, numbered, renewal, metadataRight}
 use Rattle.records.proofs.Codecs.{is-short, is-good, is-wrong}
 use borrow.Author.Needs.{needs}
 use Rattle.records.proofs.requests.read_renew.Statement.{statement}
@@ -21,7 +21,7 @@ use Rattle.records.proofs.requests.metadata_right.Reads as metadata-rig
 
 -- src/requests.rt:92:9
 returns : tie.Need-returns
-returns c = is-short (numbered renewal) (λ p. Good (p .0) (Renew (p .1))) BadField (now (c .before .before .args .s)) (c .if1 .taken)
+returns c = is-short (numbered renewal) (asked Renew) BadField (now (c .before .before .args .s)) (c .if1 .taken)
 
 -- src/requests.rt:94:9
 u8-at-requires : tie.Need-u8-at-requires
@@ -54,7 +54,7 @@ u32-at-requires-2 c κs = search needs
 -- src/requests.rt:104:9
 returns-2 : tie.Need-returns-2
 returns-2 c =
-    is-good (numbered renewal) (λ p. Good (p .0) (Renew (p .1))) BadField (now (c .before .before .before .before .before .before .before .before .before .before .args .s)) _ (c .before .before .before .before .before .before .before .before .if1 .left)
+    is-good (numbered renewal) (asked Renew) BadField (now (c .before .before .before .before .before .before .before .before .before .before .args .s)) _ (c .before .before .before .before .before .before .before .before .if1 .left)
     (and-t _ _ refl ∙ sym (c .before .before .before .before .before .metadata-right .ensures ∙ ap₂ metadataRight (c .before .before .before .before .before .before .before .u8-at .ensures) (c .before .before .before .before .before .before .u32-at .ensures)) ∙ c .before .before .before .before .if2 .taken)
     (λ i. (
       c .u32-at2 .ensures i,
@@ -70,7 +70,7 @@ returns-2 c =
 -- src/requests.rt:88:1
 returns-3 : tie.Need-returns-3
 returns-3 c =
-    is-wrong (numbered renewal) (λ p. Good (p .0) (Renew (p .1))) BadField (now (c .before .before .before .before .before .before .args .s)) (c .before .before .before .before .if1 .left)
+    is-wrong (numbered renewal) (asked Renew) BadField (now (c .before .before .before .before .before .before .args .s)) (c .before .before .before .before .if1 .left)
     (and-t _ _ refl ∙ sym (c .before .metadata-right .ensures ∙ ap₂ metadataRight (c .before .before .before .u8-at .ensures) (c .before .before .u32-at .ensures)) ∙ c .if2 .left)
 
 pub read-renew-spec : {M : Type 1} → statement M

@@ -1,11 +1,11 @@
 use mathlib.Core.Path.{refl, sym, ap, ap₂, _∙_}
 use denote.Ref.{now}
-use Rattle.records.specs.declared.requests.Asked.the-variants.{Good, BadField}
+use Rattle.records.specs.declared.requests.Asked.the-variants.{BadField}
 use Rattle.records.specs.Codecs.{pair, number}
 use Rattle.records.specs.declared.requests.Request.the-variants.{Replace}
 use native.Mathlib.Omega.{arith}
 use Rattle.records.specs.Wire.{active}
-use Rattle.records.specs.Feeds.{numbered, replacement}
+use Rattle.records.specs.Feeds.{asked, numbered, replacement}
 use Rattle.records.proofs.Codecs.{is-miscounted, is-counted, is-wrong-counted}
 use Rattle.records.proofs.Feeds.{active-part, replace-right}
 use borrow.Author.Needs.{needs}
@@ -21,7 +21,7 @@ use Rattle.records.proofs.fields.u64_at.Reads as u64-at-reads
 
 -- src/requests.rt:147:9
 returns : tie.Need-returns
-returns c = is-miscounted (numbered replacement) (λ p. Good (p .0) (Replace (p .1))) BadField (now (c .before .before .args .s)) (λ e. omega (arith, e, c .if1 .taken))
+returns c = is-miscounted (numbered replacement) (asked Replace) BadField (now (c .before .before .args .s)) (λ e. omega (arith, e, c .if1 .taken))
 
 -- src/requests.rt:149:8
 sub-if2 : tie.Need-sub-if2
@@ -42,7 +42,7 @@ mul-if2 c = search needs
 -- src/requests.rt:150:9
 returns-2 : tie.Need-returns-2
 returns-2 c =
-    is-miscounted (numbered replacement) (λ p. Good (p .0) (Replace (p .1))) BadField (now (c .before .before .before .before .args .s))
+    is-miscounted (numbered replacement) (asked Replace) BadField (now (c .before .before .before .before .args .s))
     (λ e. c .if2 .taken (omega (arith, e, c .before .u16-at .ensures)))
 
 -- src/requests.rt:152:16
@@ -81,7 +81,7 @@ u32-at-requires-2 c κs = search needs
 returns-3 : tie.Need-returns-3
 returns-3 c =
     let s = now (c .before .before .before .before .before .before .before .before .before .before .before .args .s) in
-    is-counted (numbered replacement) (λ p. Good (p .0) (Replace (p .1))) BadField s _ (omega (arith, c .before .before .before .before .before .before .before .if2 .left, c .before .before .before .before .before .before .before .before .before .if1 .left, c .before .before .before .before .before .before .before .before .u16-at .ensures))
+    is-counted (numbered replacement) (asked Replace) BadField s _ (omega (arith, c .before .before .before .before .before .before .before .if2 .left, c .before .before .before .before .before .before .before .before .before .if1 .left, c .before .before .before .before .before .before .before .before .u16-at .ensures))
     (replace-right s ∙ sym (c .before .before .before .before .before .active-right .ensures) ∙ c .before .before .before .before .if3 .taken)
     (λ i. (
       c .u32-at2 .ensures i,
@@ -96,7 +96,7 @@ returns-3 c =
 returns-4 : tie.Need-returns-4
 returns-4 c =
     let s = now (c .before .before .before .before .before .before .before .args .s) in
-    is-wrong-counted (numbered replacement) (λ p. Good (p .0) (Replace (p .1))) BadField s (replace-right s ∙ sym (c .before .active-right .ensures) ∙ c .if3 .left)
+    is-wrong-counted (numbered replacement) (asked Replace) BadField s (replace-right s ∙ sym (c .before .active-right .ensures) ∙ c .if3 .left)
 
 pub read-replace-spec : {M : Type 1} → statement M
 read-replace-spec =
