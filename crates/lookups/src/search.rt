@@ -97,7 +97,7 @@ pub(crate) fn narrow_ids(active: [ActiveLock; 64], n: usize, broad: ActiveLock) 
     requires { ⌜ n ≤ 64 ⌝ }
     ensures { λ r. ⌜ r ≡ idsTold (map (λ a. a .lock .id) (filter (narrow broad) (take n active))) ⌝ }
 {
-    let blank = LockId::zero();
+    let blank = LockId { hi: 0, lo: 0 };
     let mut out = [blank; 64];
     let mut w: usize = 0;
     let mut i: usize = 0;
