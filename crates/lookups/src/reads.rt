@@ -126,6 +126,19 @@ pub fn covering_functional_group(s: LockState, subject: u16, ecu: u8) -> FoundAc
     }
 }
 
+pub fn tester_present_for(s: LockState, subject: u16, scope: ScopeKey) -> Needed
+    ensures { λ r. ⌜ r ≡ testerPresentForOn s subject scope ⌝ }
+{
+    let v = rules::broken(s);
+    match v {
+        Verdict::Broken(rule) => Needed::UnsoundState(rule),
+        Verdict::Sound => {
+            let l = s.active;
+            crate::search::present_for(l, s.actives, subject, scope)
+        }
+    }
+}
+
 pub fn uncovered_defunct(s: LockState, subject: u16, scope: ScopeKey, coverage: LockCoverage, now: u64) -> FoundDefunct
     ensures { λ r. ⌜ r ≡ uncoveredDefunctOn s subject scope coverage now ⌝ }
 {

@@ -9,13 +9,15 @@ use crate::FoundActive;
 use crate::FoundDefunct;
 use crate::Listed;
 use crate::Narrow;
+use crate::Needed;
+use crate::TesterPresent;
 ghost use mathlib.Core.Path.{_≡_};
 ghost use mathlib.Core.List.{map};
 ghost use Prim.Native.Nat.{_≤_};
 ghost use lib.ListN.{take};
-ghost use Rattle.lists.specs.Lists.{find, filter};
+ghost use Rattle.lists.specs.Lists.{find, filter, any};
 ghost use Rattle.state.specs.Locks.{hasId, hasIdD};
-ghost use Rattle.lookups.specs.Reads.{toldA, toldD, idsTold, onScope, narrow, groupOver, uncovered};
+ghost use Rattle.lookups.specs.Reads.{toldA, toldD, idsTold, onScope, narrow, groupOver, uncovered, presentFor, toldPresent, needs};
 
 pub(crate) fn find_scope(active: [ActiveLock; 64], n: usize, scope: ScopeKey) -> FoundActive
     requires { ⌜ n ≤ 64 ⌝ }
@@ -114,5 +116,37 @@ pub(crate) fn narrow_ids(active: [ActiveLock; 64], n: usize, broad: ActiveLock) 
     Narrow {
         told: Listed::Ids(w),
         ids: out,
+    }
+}
+
+pub(crate) fn has_group(active: [ActiveLock; 64], n: usize, subject: u16, ecu: u8) -> bool
+    requires { ⌜ n ≤ 64 ⌝ }
+    ensures { λ r. ⌜ r ≡ any (groupOver subject ecu) (take n active) ⌝ }
+{
+    let mut i: usize = 0;
+    while i < n {
+        let a = active[i];
+        i += 1;
+        if crate::group_over(subject, ecu, a) {
+            return true;
+        }
+    }
+    false
+}
+
+// What a lock of the subject on the scope needs: nothing of its own where a group lock of the subject covers its ECU.
+pub(crate) fn present_for(active: [ActiveLock; 64], n: usize, subject: u16, scope: ScopeKey) -> Needed
+    requires { ⌜ n ≤ 64 ⌝ }
+    ensures { λ r. ⌜ r ≡ toldPresent (presentFor (take n active) subject scope) ⌝ }
+{
+    match scope {
+        ScopeKey::Vehicle => Needed::Nothing,
+        ScopeKey::FunctionalGroup(g) => Needed::Present(TesterPresent::Functional(g)),
+        ScopeKey::Ecu(e) => {
+            if has_group(active, n, subject, e) {
+                return Needed::Nothing;
+            }
+            Needed::Present(TesterPresent::Ecu(e))
+        }
     }
 }
