@@ -1,3 +1,5 @@
 // The eight operations of the lock state, each a value in and a value out.
 // SPDX-License-Identifier: Apache-2.0
 pub mod answers;
+mod table;
+mod trees;

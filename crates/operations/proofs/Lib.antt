@@ -1,0 +1,4 @@
+pub mod Flags
+pub mod Going
+pub mod Leaving
+pub mod Coming
