@@ -8,3 +8,4 @@ pub mod Renew
 pub mod Delete
 pub mod Replace
 pub mod Acknowledge
+pub mod Place

@@ -1,0 +1,3 @@
+-- What other crates' proofs cite of the operations.
+pub mod Closing
+pub mod Renewing
