@@ -1,3 +1,4 @@
 -- What other crates' proofs cite of the operations.
 pub mod Closing
 pub mod Renewing
+pub mod Papers
