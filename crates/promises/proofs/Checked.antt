@@ -27,7 +27,7 @@ use Rattle.operations.specs.Answers.{isDone, refuseIf, andThen}
 use Rattle.operations.specs.Trees.{isListed}
 use Rattle.operations.specs.Checks.{checkId, checkScope, checkParent, checkFound, checkNesting, conflicts, checkConflict, checkClear, checkRoom, checkRoot, missing, settledLock, unfitId, toldListed, checkListed, unfitChild, toldChild, checkChildren}
 use Rattle.promises.proofs.Passed.{went-on}
-use Rattle.promises.proofs.Facts.{Parent}
+use Rattle.promises.proofs.Core.{Parent}
 
 pub non-no : (b : Bool) → No (non b) → Yes b
 unfolding non

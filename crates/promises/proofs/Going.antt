@@ -24,7 +24,7 @@ use Rattle.state.specs.Locks.{dkey, hasIdD}
 use Rattle.rules.specs.Rules.{findD, neatD}
 use Rattle.rules.proofs.Ends.{Ends, done, step}
 use Rattle.operations.specs.Table.{redirect, other, dropEntry, dropFound, removeD, removeAll, superseded, supersede}
-use Rattle.promises.proofs.Facts.{Acyclic}
+use Rattle.promises.proofs.Core.{Acyclic}
 
 -- ---- redirection changes target and holder alone
 pub redirect-lock : (e d : DefunctLock) → redirect e d .lock ≡ d .lock

@@ -30,7 +30,7 @@ use Rattle.rules.specs.Rules.{findD, clash, neatL, neatA, neatD}
 use Rattle.rules.proofs.Ends.{Ends, done, step}
 use Rattle.operations.specs.Checks.{conflicts}
 use Rattle.operations.specs.Vehicle.{nest, adopt}
-use Rattle.promises.proofs.Facts.{Parent, Acyclic, Core}
+use Rattle.promises.proofs.Core.{Parent, Acyclic, Core}
 use Rattle.promises.proofs.Going.{Shrinks}
 
 -- a model made of another's parts

@@ -34,7 +34,7 @@ use Rattle.operations.specs.Replace.{orphan, cutOf, enteredOf, replacedIn, judg
 use Rattle.operations.specs.Acknowledge.{shedIn}
 use Rattle.promises.proofs.Further.{insert-map}
 use Rattle.promises.proofs.Passed.{then-done, done-is}
-use Rattle.promises.proofs.Facts.{Parent, Core, Facts, facts-of, sound-by}
+use Rattle.promises.proofs.Core.{Parent, Core, Stands, stands-of, sound-by}
 use Rattle.promises.proofs.Going.{Shrinks, removeD-shrinks, removeAll-shrinks, supersede-shrinks}
 use Rattle.promises.proofs.Keeping.{made, core-shed, Comes, comes-on, one-vehicle, core-insert, Same, core-map, Adopts, core-adopt, core-enter}
 use Rattle.promises.proofs.Removal.{tree-kept, core-tree, Split, Cut, cut-roots}
@@ -66,7 +66,7 @@ core-inserted m x n s f =
 pub insert-keeps : (k : Limits) (m : Model) (x : ActiveLock) → Yes (neatA x) → Yes (sound k m) → judgeInsert k m x ≡ Done → Yes (sound k (insertedIn m x))
 unfolding judgeInsert insertedIn
 insert-keeps k m x t s e =
-    let f = facts-of k m s in
+    let f = stands-of k m s in
     let h1 = then-done _ _ (done-is _ e) in
     let h2 = then-done _ _ (h1 .1) in
     let h3 = then-done _ _ (h2 .1) in
@@ -93,7 +93,7 @@ core-taken m p x n s f out ok =
 pub vehicle-keeps : (k : Limits) (m : Model) (x : ActiveLock) (ws : List ℕ) → Yes (neatA x) → Yes (sound k m) → judgeVehicle k m x ws ≡ Done → Yes (sound k (vehicleIn m x ws))
 unfolding judgeVehicle vehicleIn insertedIn conflicts
 vehicle-keeps k m x ws t s e =
-    let f = facts-of k m s in
+    let f = stands-of k m s in
     let h1 = then-done _ _ (done-is _ e) in
     let h2 = then-done _ _ (h1 .1) in
     let h3 = then-done _ _ (h2 .1) in
@@ -144,7 +144,7 @@ module _ (m : Model) (i : LockId) (e : ℕ) (has : Bool) (d : ℕ) where
   pub renew-keeps : (k : Limits) → Yes (sound k m) → Yes (sound k (renewedIn m i e has d))
   unfolding renewedIn
   renew-keeps k s =
-      let f = facts-of k m s in
+      let f = stands-of k m s in
       let c = f .core in
       sound-by k (renewedIn m i e has d) (record {
         room = fits-less k m (renewedIn m i e has d) (omega (arith, length-map (m .active) (extendAt i e has d))) (omega arith) (f .room);
@@ -157,7 +157,7 @@ module _ (m : Model) (i : LockId) (e : ℕ) (has : Bool) (d : ℕ) where
 pub delete-keeps : (k : Limits) (m : Model) (r : ActiveLock) → Yes (sound k m) → Yes (sound k (withoutTree m r))
 unfolding withoutTree
 delete-keeps k m r s =
-    let f = facts-of k m s in
+    let f = stands-of k m s in
     sound-by k (withoutTree m r) (record {
       room = fits-less k m (withoutTree m r) (rw (tree-kept r (startParts (m .active))) (filter-le (λ a. non (inTree r a)) (m .active))) (omega arith) (f .room);
       core = core-tree m r (m .revision + 1) (f .core);
@@ -167,7 +167,7 @@ delete-keeps k m r s =
 shed-keeps : (k : Limits) (m : Model) (t : List DefunctLock) → Shrinks (m .defunct) t → Yes (sound k m) → Yes (sound k (shedIn m t))
 unfolding shedIn
 shed-keeps k m t g s =
-    let f = facts-of k m s in
+    let f = stands-of k m s in
     sound-by k (shedIn m t) (record { room = fits-less k m (shedIn m t) (omega arith) (g .len) (f .room); core = core-shed m t _ (f .core) g })
 
 pub acknowledge-keeps : (k : Limits) (m : Model) (i : LockId) → Yes (sound k m) → Yes (sound k (shedIn m (removeD i (m .defunct))))
@@ -232,7 +232,7 @@ module _ (x : ActiveLock) (by at : ℕ) where
 pub replace-keeps : (k : Limits) (m : Model) (ws : List ℕ) (x : ActiveLock) (by at : ℕ) → Yes (neatA x) → Yes (sound k m) → judgeReplace k m ws x by at ≡ Done → Yes (sound k (replacedIn m ws x by at))
 unfolding judgeReplace checkEntry replacedIn enteredOf orphan hasId
 replace-keeps k m ws x by at t s e =
-    let f = facts-of k m s in
+    let f = stands-of k m s in
     let h1 = then-done _ _ (done-is _ e) in
     let h2 = then-done _ _ (h1 .1) in
     let h3 = then-done _ _ (h2 .1) in

@@ -1,8 +1,9 @@
 pub mod Further
 pub mod Passed
-pub mod Facts
+pub mod Core
 pub mod Going
 pub mod Keeping
 pub mod Removal
 pub mod Checked
 pub mod Keeps
+pub mod Every

@@ -23,7 +23,7 @@ use Rattle.state.specs.Model.{Model}
 use Rattle.lookups.specs.Reads.{narrow}
 use Rattle.operations.specs.Trees.{childOf, inTree, Parts, takeParts, treeParts, rootParts, cutAll, startParts, isListed, rootsParts}
 use Rattle.promises.proofs.Further.{fresh-from, fresh-append, filter-filter, filter-agree}
-use Rattle.promises.proofs.Facts.{Parent, Core}
+use Rattle.promises.proofs.Core.{Parent, Core}
 use Rattle.promises.proofs.Keeping.{made, core-filter}
 
 -- ---- a tree is closed under parents

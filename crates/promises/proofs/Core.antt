@@ -1,6 +1,6 @@
 -- A sound state as facts, and that the test says just that. Operations are proved to keep the facts.
 --     Core m       all rules but the counts: what a replacement keeps while it passes through more entries than fit
---     Facts k m    Core, and the counts within the limits k
+--     Stands k m   Core, and the counts within the limits k
 -- Assumes nothing.
 use mathlib.Core.Path.{_≡_, refl, sym, ap, subst, _∙_}
 use mathlib.Core.Bool.{Bool, true, false, false≢true}
@@ -21,7 +21,8 @@ use Rattle.state.specs.declared.DefunctLock.{DefunctLock}
 use Rattle.state.specs.Locks.{akey, dkey, isVehicle, sameScope}
 use Rattle.state.specs.Model.{Model, Limits, fits}
 use Rattle.rules.specs.Rules.{hasD, pairs, ofParent, isSome, parentOf, clash, inOrder, neatA, neatD, neat, rule1, rule2, rule3, rule4, rule5, rule6, rule7, rule8, rule9, sound}
-use Rattle.rules.proofs.Ends.{Ends, done, ends-of-rule9, rule9-of-ends}
+use Rattle.rules.proofs.Ends.{Ends, ends-anywhere, rule9-of-ends}
+use Rattle.rules.proofs.Sound.{Facts, facts-of, of-facts}
 
 -- rules 3 to 6 of a lock a and its parent p
 pub record Parent (l : List ActiveLock) (a p : ActiveLock) : Type 0 where
@@ -47,32 +48,9 @@ pub record Core (m : Model) : Type 0 where
   pub clear : (a : ActiveLock) → Mem a (m .active) → (b : ActiveLock) → Mem b (m .active) → No (clash (a .lock) (b .lock))
   pub ends : Acyclic (m .defunct)
 
-pub record Facts (k : Limits) (m : Model) : Type 0 where
+pub record Stands (k : Limits) (m : Model) : Type 0 where
   pub room : Yes (fits k m)
   pub core : Core m
-
--- ---- each rule's test
-pub record Rules (k : Limits) (m : Model) : Type 0 where
-  pub r0 : Yes (fits k m)
-  pub order : Yes (inOrder m)
-  pub plain : Yes (neat m)
-  pub r1 : Yes (rule1 m)
-  pub r2 : Yes (rule2 m)
-  pub r3 : Yes (rule3 m)
-  pub r4 : Yes (rule4 m)
-  pub r5 : Yes (rule5 m)
-  pub r6 : Yes (rule6 m)
-  pub r7 : Yes (rule7 m)
-  pub r8 : Yes (rule8 m)
-  pub r9 : Yes (rule9 m)
-
-sound→rules : (k : Limits) (m : Model) → Yes (sound k m) → Rules k m
-unfolding sound
-sound→rules k m t = search (and-l, and-r) depth 14
-
-rules→sound : (k : Limits) (m : Model) → Rules k m → Yes (sound k m)
-unfolding sound
-rules→sound k m r = search and-i depth 16
 
 module _ (m : Model) where
   apart→ : Yes (rule1 m) → (a : ActiveLock) → Mem a (m .active) → (d : DefunctLock) → Mem d (m .defunct) → dkey d ≡ akey a → ⊥
@@ -93,7 +71,7 @@ module _ (m : Model) where
   of-some : (q : ActiveLock → Bool) (o : Option ActiveLock) (p : ActiveLock) → o ≡ some p → Yes (ofParent q o) → Yes (q p)
   of-some q o p e t = rw e at t
 
-  parents→ : {k : Limits} → Rules k m → (a : ActiveLock) → Mem a (m .active) → Yes (a .child) → (p : ActiveLock) × Parent (m .active) a p
+  parents→ : {k : Limits} → Facts k m → (a : ActiveLock) → Mem a (m .active) → Yes (a .child) → (p : ActiveLock) × Parent (m .active) a p
   unfolding rule3 rule4 rule5 rule6
   parents→ r a u c =
       elim (find-cases (λ x. eqb (akey x) (key (a .parent))) (m .active)) [
@@ -102,12 +80,12 @@ module _ (m : Model) where
           record {
             there = find→ _ (m .active) (w .1) .0;
             id = eqb-true _ _ (find→ _ (m .active) (w .1) .1);
-            kind = of-some _ _ (w .0) (w .1) (imp-e _ _ (all→ _ (r .r4) u) c);
-            owner = eqb-true _ _ (of-some _ _ (w .0) (w .1) (imp-e _ _ (all→ _ (r .r5) u) c));
-            inside = of-some _ _ (w .0) (w .1) (imp-e _ _ (all→ _ (r .r6) u) c);
+            kind = of-some _ _ (w .0) (w .1) (imp-e _ _ (all→ _ (r .four) u) c);
+            owner = eqb-true _ _ (of-some _ _ (w .0) (w .1) (imp-e _ _ (all→ _ (r .five) u) c));
+            inside = of-some _ _ (w .0) (w .1) (imp-e _ _ (all→ _ (r .six) u) c);
           },
         )
-        | inr e ↦ absurd (false≢true (rw e at (imp-e _ _ (all→ _ (r .r3) u) c)))
+        | inr e ↦ absurd (false≢true (rw e at (imp-e _ _ (all→ _ (r .three) u) c)))
       ]
 
   -- the parent is the lock that is found
@@ -135,53 +113,43 @@ module _ (m : Model) where
     unfolding rule6
     →rule6 = →parent (λ a p. within (a .lock .coverage) (p .lock .coverage)) (λ a p w. w .inside)
 
-  -- from an id that no entry has the walk ends at once
-  acyclic→ : Yes (rule9 m) → Acyclic (m .defunct)
-  acyclic→ t k =
-      elim (find-cases (λ d. eqb (dkey d) k) (m .defunct)) [
-        | inl w ↦
-            let f = find→ (λ d. eqb (dkey d) k) (m .defunct) (w .1) in
-            subst (Ends (m .defunct)) (eqb-true (dkey (w .0)) k (f .1)) (ends-of-rule9 m t (w .0) (f .0))
-        | inr e ↦ done e
-      ]
-
-  core→ : {k : Limits} → Rules k m → Core m
+  core→ : {k : Limits} → Facts k m → Core m
   unfolding inOrder neat rule2 rule7 rule8
   core→ r =
       record {
         order = and-l _ _ (r .order);
         orderD = and-r _ _ (r .order);
-        plain = λ a u. all→ neatA (and-l _ _ (r .plain)) u;
-        plainD = λ d u. all→ neatD (and-r _ _ (r .plain)) u;
-        apart = apart→ (r .r1);
-        scopes = λ a u b v s. eqb-true _ _ (imp-e _ _ (pairs→ _ (r .r2) a u b v) s);
+        plain = λ a u. all→ neatA (and-l _ _ (r .tidy)) u;
+        plainD = λ d u. all→ neatD (and-r _ _ (r .tidy)) u;
+        apart = apart→ (r .one);
+        scopes = λ a u b v s. eqb-true _ _ (imp-e _ _ (pairs→ _ (r .two) a u b v) s);
         parents = parents→ r;
-        roots = λ a u v. non-yes _ (imp-e _ _ (all→ _ (r .r7) u) v);
-        clear = λ a u b v. non-yes _ (pairs→ _ (r .r8) a u b v);
-        ends = acyclic→ (r .r9);
+        roots = λ a u v. non-yes _ (imp-e _ _ (all→ _ (r .seven) u) v);
+        clear = λ a u b v. non-yes _ (pairs→ _ (r .eight) a u b v);
+        ends = ends-anywhere m (r .nine);
       }
 
-  →rules : {k : Limits} → Facts k m → Rules k m
+  →facts : {k : Limits} → Stands k m → Facts k m
   unfolding inOrder neat rule2 rule7 rule8
-  →rules s =
+  →facts s =
       let c = s .core in
       record {
-        r0 = s .room;
+        room = s .room;
         order = and-i _ _ (c .order) (c .orderD);
-        plain = and-i _ _ (→all neatA (m .active) (c .plain)) (→all neatD (m .defunct) (c .plainD));
-        r1 = →apart (c .apart);
-        r2 = →pairs _ (λ a u b v. imp-i _ _ (λ s. eq-eqb _ _ (c .scopes a u b v s)));
-        r3 = →rule3 (c .order) (c .parents);
-        r4 = →rule4 (c .order) (c .parents);
-        r5 = →rule5 (c .order) (c .parents);
-        r6 = →rule6 (c .order) (c .parents);
-        r7 = →all _ (m .active) (λ a u. imp-i _ _ (λ v. yes-non _ (c .roots a u v)));
-        r8 = →pairs _ (λ a u b v. yes-non _ (c .clear a u b v));
-        r9 = rule9-of-ends m (λ d u. c .ends (dkey d));
+        tidy = and-i _ _ (→all neatA (m .active) (c .plain)) (→all neatD (m .defunct) (c .plainD));
+        one = →apart (c .apart);
+        two = →pairs _ (λ a u b v. imp-i _ _ (λ s. eq-eqb _ _ (c .scopes a u b v s)));
+        three = →rule3 (c .order) (c .parents);
+        four = →rule4 (c .order) (c .parents);
+        five = →rule5 (c .order) (c .parents);
+        six = →rule6 (c .order) (c .parents);
+        seven = →all _ (m .active) (λ a u. imp-i _ _ (λ v. yes-non _ (c .roots a u v)));
+        eight = →pairs _ (λ a u b v. yes-non _ (c .clear a u b v));
+        nine = rule9-of-ends m (λ d u. c .ends (dkey d));
       }
 
-pub facts-of : (k : Limits) (m : Model) → Yes (sound k m) → Facts k m
-facts-of k m t = let r = sound→rules k m t in record { room = r .r0; core = core→ m r }
+pub stands-of : (k : Limits) (m : Model) → Yes (sound k m) → Stands k m
+stands-of k m t = let r = facts-of k m t in record { room = r .room; core = core→ m r }
 
-pub sound-by : (k : Limits) (m : Model) → Facts k m → Yes (sound k m)
-sound-by k m s = rules→sound k m (→rules m s)
+pub sound-by : (k : Limits) (m : Model) → Stands k m → Yes (sound k m)
+sound-by k m s = of-facts k m (→facts m s)
