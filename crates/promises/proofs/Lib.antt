@@ -7,3 +7,5 @@ pub mod Removal
 pub mod Checked
 pub mod Keeps
 pub mod Every
+pub mod Closing
+pub mod Again
