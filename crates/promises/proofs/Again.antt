@@ -9,9 +9,9 @@ use mathlib.Core.Bool.{Bool, true, false}
 use mathlib.Core.List.{List, [], _∷_}
 use Prim.Native.Nat.{ℕ}
 use lib.Dec.{eqb}
-use Rattle.lists.specs.Tests.{_and_, Yes, No}
+use Rattle.lists.specs.Tests.{_and_}
 use Rattle.lists.specs.Lists.{all}
-use Rattle.lists.proofs.Tests.{against, and-i}
+use Rattle.lists.proofs.Tests.{and-i}
 use Rattle.ids.specs.declared.LockId.{LockId}
 use Rattle.state.specs.declared.ActiveLock.{ActiveLock}
 use Rattle.state.specs.declared.LockState.{LockState}
@@ -25,7 +25,7 @@ use Rattle.operations.specs.declared.answers.Deletion.the-variants as deletion
 use Rattle.operations.specs.declared.answers.Expiration.the-variants as expiration
 use Rattle.operations.specs.declared.answers.Acknowledgement.the-variants as acknowledgement
 use Rattle.operations.specs.declared.answers.DefunctExpiry.the-variants as expiry
-use Rattle.operations.specs.Answers.{renewalPaper, deletionPaper, expirationPaper, acknowledgementPaper, expiryPaper}
+use Rattle.operations.specs.Answers.{paperOf, renewalPaper, deletionPaper, expirationPaper}
 use Rattle.operations.specs.Insert.{insertActiveOn}
 use Rattle.operations.specs.Vehicle.{insertVehicleOn}
 use Rattle.operations.specs.Renew.{renewOn}
@@ -33,42 +33,40 @@ use Rattle.operations.specs.Delete.{deleteOn, beginExpirationOn}
 use Rattle.operations.specs.Replace.{commitReplacementOn}
 use Rattle.operations.specs.Acknowledge.{acknowledgeOn, expireDefunctOn}
 use Rattle.promises.specs.Steps.{Op, insertActive, insertVehicle, renew, delete, beginExpiration, commitReplacement, acknowledge, expireDefunct, stepOn, runsOn}
+use Rattle.promises.proofs.Answered.{differ}
 use Rattle.promises.proofs.Every.{empty-sound}
-use Rattle.promises.proofs.Closing.{closing, closingR, closingX, closingE, closingA, closingD, insert-active-comes, insert-vehicle-comes, replace-comes, renew-comes, delete-comes, expiration-comes, acknowledge-comes, expire-defunct-comes}
-
--- a test that fails of a and passes of b tells them apart
-apart : {A : Type 0} (p : A → Bool) {a b : A} → No (p a) → Yes (p b) → a ≡ b → ⊥
-apart p f t e = against f (ap p e ∙ t)
+use Rattle.promises.proofs.Closing.{insert-active-comes, insert-vehicle-comes, replace-comes, renew-comes, delete-comes, expiration-comes, acknowledge-comes, expire-defunct-comes}
 
 -- ---- never Invariant
 pub insert-active-never : (s : LockState) (y : ActiveLock) → insertActiveOn s y .told ≡ answer.Invariant → ⊥
-insert-active-never s y = insert-active-comes (λ r. r .told ≡ answer.Invariant → ⊥) s y (λ b n. apart closing n refl) (λ d g. apart closing refl refl)
+unfolding paperOf
+insert-active-never s y = insert-active-comes (λ r. r .told ≡ answer.Invariant → ⊥) s y (λ b n. n) (λ d g. differ (λ a. eqb (paperOf a .number) 11) refl refl)
 
 pub insert-vehicle-never : (s : LockState) (y : ActiveLock) (ws : List ℕ) → insertVehicleOn s y ws .told ≡ answer.Invariant → ⊥
-insert-vehicle-never s y ws = insert-vehicle-comes (λ r. r .told ≡ answer.Invariant → ⊥) s y ws (λ b n. apart closing n refl) (λ d g. apart closing refl refl)
+unfolding paperOf
+insert-vehicle-never s y ws = insert-vehicle-comes (λ r. r .told ≡ answer.Invariant → ⊥) s y ws (λ b n. n) (λ d g. differ (λ a. eqb (paperOf a .number) 11) refl refl)
 
 pub replace-never : (s : LockState) (ws : List ℕ) (y : ActiveLock) (by at : ℕ) → commitReplacementOn s ws y by at .told .answer ≡ answer.Invariant → ⊥
-replace-never s ws y by at = replace-comes (λ r. r .told .answer ≡ answer.Invariant → ⊥) s ws y by at (λ b n. apart closing n refl) (λ d g. apart closing refl refl)
+unfolding paperOf
+replace-never s ws y by at = replace-comes (λ r. r .told .answer ≡ answer.Invariant → ⊥) s ws y by at (λ b n. n) (λ d g. differ (λ a. eqb (paperOf a .number) 11) refl refl)
 
 pub renew-never : (s : LockState) (i : LockId) (e now : ℕ) (has : Bool) (d : ℕ) → renewOn s i e now has d .told ≡ renewal.Invariant → ⊥
 unfolding renewalPaper
-renew-never s i e now has d = renew-comes (λ r. r .told ≡ renewal.Invariant → ⊥) s i e now has d (λ b n. apart closingR n refl) (λ d g. apart closingR refl refl)
+renew-never s i e now has d = renew-comes (λ r. r .told ≡ renewal.Invariant → ⊥) s i e now has d (λ b n. n) (λ d g. differ (λ a. eqb (renewalPaper a .number) 11) refl refl)
 
 pub delete-never : (s : LockState) (i : LockId) → deleteOn s i .told .answer ≡ deletion.Invariant → ⊥
 unfolding deletionPaper
-delete-never s i = delete-comes (λ r. r .told .answer ≡ deletion.Invariant → ⊥) s i (λ b n. apart closingX n refl) (λ r q g. apart closingX refl refl)
+delete-never s i = delete-comes (λ r. r .told .answer ≡ deletion.Invariant → ⊥) s i (λ b n. n) (λ r q g. differ (λ a. eqb (deletionPaper a .number) 11) refl refl)
 
 pub begin-expiration-never : (s : LockState) (i : LockId) (now : ℕ) → beginExpirationOn s i now .told .answer ≡ expiration.Invariant → ⊥
 unfolding expirationPaper
-begin-expiration-never s i now = expiration-comes (λ r. r .told .answer ≡ expiration.Invariant → ⊥) s i now (λ b n. apart closingE n refl) (λ r q g. apart closingE refl refl)
+begin-expiration-never s i now = expiration-comes (λ r. r .told .answer ≡ expiration.Invariant → ⊥) s i now (λ b n. n) (λ r q g. differ (λ a. eqb (expirationPaper a .number) 11) refl refl)
 
 pub acknowledge-never : (s : LockState) (i : LockId) → acknowledgeOn s i .told ≡ acknowledgement.Invariant → ⊥
-unfolding acknowledgementPaper
-acknowledge-never s i = acknowledge-comes (λ r. r .told ≡ acknowledgement.Invariant → ⊥) s i (λ b n. apart closingA n refl) (λ b n g. apart closingA n refl)
+acknowledge-never s i = acknowledge-comes (λ r. r .told ≡ acknowledgement.Invariant → ⊥) s i (λ b n. n) (λ b n g. n)
 
 pub expire-defunct-never : (s : LockState) (now : ℕ) → expireDefunctOn s now .told .answer ≡ expiry.Invariant → ⊥
-unfolding expiryPaper
-expire-defunct-never s now = expire-defunct-comes (λ r. r .told .answer ≡ expiry.Invariant → ⊥) s now (λ b n. apart closingD n refl) (λ b l n g. apart closingD n refl)
+expire-defunct-never s now = expire-defunct-comes (λ r. r .told .answer ≡ expiry.Invariant → ⊥) s now (λ b n. n) (λ b l n g. n)
 
 -- ---- accepted again
 pub accepted-again : (s : LockState) → brokenRule s ≡ Sound → (o : Op) → brokenRule (stepOn s o) ≡ Sound

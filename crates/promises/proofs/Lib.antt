@@ -7,5 +7,7 @@ pub mod Removal
 pub mod Checked
 pub mod Keeps
 pub mod Every
+pub mod Answered
 pub mod Closing
 pub mod Again
+pub mod Room
