@@ -8,8 +8,5 @@ pub mod Renew
 pub mod Delete
 pub mod Replace
 pub mod Acknowledge
-<<<<<<< HEAD
 pub mod Code
-=======
 pub mod Place
->>>>>>> opsb/main
