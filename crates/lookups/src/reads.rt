@@ -139,6 +139,19 @@ pub fn tester_present_for(s: LockState, subject: u16, scope: ScopeKey) -> Needed
     }
 }
 
+pub fn tester_present_needed(s: LockState, t: TesterPresent) -> Truth
+    ensures { λ r. ⌜ r ≡ testerPresentNeededOn s t ⌝ }
+{
+    let v = rules::broken(s);
+    match v {
+        Verdict::Broken(rule) => Truth::UnsoundState(rule),
+        Verdict::Sound => {
+            let l = s.active;
+            Truth::Is(crate::search::is_needed(l, s.actives, t))
+        }
+    }
+}
+
 pub fn uncovered_defunct(s: LockState, subject: u16, scope: ScopeKey, coverage: LockCoverage, now: u64) -> FoundDefunct
     ensures { λ r. ⌜ r ≡ uncoveredDefunctOn s subject scope coverage now ⌝ }
 {
