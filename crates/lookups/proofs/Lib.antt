@@ -2,3 +2,4 @@
 pub mod Verdicts
 pub mod Presents
 pub mod Walk
+pub mod Visits
