@@ -9,7 +9,7 @@ use mathlib.Core.Option.{Option, none, some, Option·none-ne-some, Option·some-
 use Prim.Native.Nat.{ℕ, zero, suc, _+_, _≤_, _<_, zero-le, suc-le-suc}
 use native.Mathlib.Omega.{arith}
 use lib.Dec.{eqb}
-use lib.ListN.{length}
+use lib.ListN.{length, length-take}
 use Rattle.lists.specs.Tests.{Yes}
 use Rattle.lists.specs.Lists.{Mem, ascending}
 use Rattle.lists.proofs.Tests.{against, non-yes}
@@ -18,10 +18,14 @@ use Rattle.ids.specs.Order.{key}
 use Rattle.state.specs.declared.ActiveLock.{ActiveLock}
 use Rattle.state.specs.declared.DefunctLock.{DefunctLock}
 use Rattle.state.specs.Locks.{dkey}
-use Rattle.state.specs.Model.{Model}
-use Rattle.rules.specs.Rules.{findA, findD, rule9, inOrder}
+use Rattle.state.specs.declared.LockState.{LockState}
+use Rattle.state.specs.Model.{Model, modelOf}
+use Rattle.rules.specs.declared.Verdict.the-variants.{Sound}
+use Rattle.rules.specs.Rules.{findA, findD, rule9, brokenRule}
+use Rattle.rules.proofs.Sound.{facts-of-state}
 use Rattle.rules.proofs.Ends.{Ends, done, step, leaves, leaves-all, ends-anywhere}
 use Rattle.lookups.specs.Reads.{Held, held, walk, holderOf}
+use Rattle.lookups.proofs.Verdicts.{defuncts-fit}
 
 -- ---- one step
 module _ (m : Model) (n k h c : ℕ) where
@@ -124,6 +128,11 @@ pub holder-links : (m : Model) → rule9 m ≡ true → (d : DefunctLock) → ho
 unfolding holderOf
 holder-links m u d =
     omega (arith, links-le m (ends-anywhere m u (key (d .target))) (suc (length (m .defunct))) (d .holder) 0, ahead-le (m .defunct) (key (d .target)))
+
+-- which is 128 at most
+pub holder-links-fit : (s : LockState) → brokenRule s ≡ Sound → (d : DefunctLock) → holderOf (modelOf s) d .links ≤ 128
+holder-links-fit s e d =
+    omega (arith, holder-links (modelOf s) (facts-of-state s e .nine) d, length-take (s .defuncts) (s .defunct), defuncts-fit s e)
 
 -- of a stored record: one fewer, since the walk doesn't pass the record itself
 pub stored-links : (m : Model) → rule9 m ≡ true → Yes (ascending dkey (m .defunct)) → (d : DefunctLock) → Mem d (m .defunct) → holderOf m d .links < length (m .defunct)

@@ -4,10 +4,12 @@ use coverage::LockCoverage;
 use ids::LockId;
 use rules::Verdict;
 use state::ActiveLock;
+use state::DefunctLock;
 use state::LockState;
 use state::ScopeKey;
 use crate::FoundActive;
 use crate::FoundDefunct;
+use crate::Holder;
 use crate::Listed;
 use crate::Narrow;
 use crate::Needed;
@@ -15,7 +17,7 @@ use crate::Revision;
 use crate::TesterPresent;
 use crate::Truth;
 ghost use mathlib.Core.Path.{_≡_};
-ghost use Rattle.lookups.specs.Reads.{revisionOn, activeForScopeOn, activeByIdOn, defunctByIdOn, activeAtOn, defunctAtOn, coveredNarrowOn, coveringGroupOn, testerPresentForOn, testerPresentNeededOn, uncoveredDefunctOn};
+ghost use Rattle.lookups.specs.Reads.{revisionOn, activeForScopeOn, activeByIdOn, defunctByIdOn, activeAtOn, defunctAtOn, coveredNarrowOn, coveringGroupOn, testerPresentForOn, testerPresentNeededOn, uncoveredDefunctOn, currentHolderOn};
 
 pub fn revision(s: LockState) -> Revision
     ensures { λ r. ⌜ r ≡ revisionOn s ⌝ }
@@ -162,5 +164,16 @@ pub fn uncovered_defunct(s: LockState, subject: u16, scope: ScopeKey, coverage: 
             let t = s.defunct;
             crate::search::find_uncovered(t, s.defuncts, subject, scope, coverage, now)
         }
+    }
+}
+
+// Who holds what replaced the record, and how many defunct entries the walk passed after it: at most 128.
+pub fn current_holder(s: LockState, d: DefunctLock) -> Holder
+    ensures { λ r. ⌜ r ≡ currentHolderOn s d ⌝ }
+{
+    let v = rules::broken(s);
+    match v {
+        Verdict::Broken(rule) => Holder::UnsoundState(rule),
+        Verdict::Sound => crate::chain::walk(s, d),
     }
 }
