@@ -1,10 +1,10 @@
 // The walk along replacements, from a defunct record to the present holder.
 // SPDX-License-Identifier: Apache-2.0
+use crate::Holder;
 use ids::LockId;
 use state::ActiveLock;
 use state::DefunctLock;
 use state::LockState;
-use crate::Holder;
 ghost use mathlib.Core.Path.{_≡_};
 ghost use Prim.Native.Nat.{_≤_};
 ghost use lib.ListN.{length};

@@ -1,12 +1,5 @@
 // The reads of the original, by its names. Each tests the state first.
 // SPDX-License-Identifier: Apache-2.0
-use coverage::LockCoverage;
-use ids::LockId;
-use rules::Verdict;
-use state::ActiveLock;
-use state::DefunctLock;
-use state::LockState;
-use state::ScopeKey;
 use crate::FoundActive;
 use crate::FoundDefunct;
 use crate::Holder;
@@ -16,6 +9,13 @@ use crate::Needed;
 use crate::Revision;
 use crate::TesterPresent;
 use crate::Truth;
+use coverage::LockCoverage;
+use ids::LockId;
+use rules::Verdict;
+use state::ActiveLock;
+use state::DefunctLock;
+use state::LockState;
+use state::ScopeKey;
 ghost use mathlib.Core.Path.{_≡_};
 ghost use Rattle.lookups.specs.Reads.{revisionOn, activeForScopeOn, activeByIdOn, defunctByIdOn, activeAtOn, defunctAtOn, coveredNarrowOn, coveringGroupOn, testerPresentForOn, testerPresentNeededOn, uncoveredDefunctOn, currentHolderOn};
 
@@ -154,7 +154,13 @@ pub fn tester_present_needed(s: LockState, t: TesterPresent) -> Truth
     }
 }
 
-pub fn uncovered_defunct(s: LockState, subject: u16, scope: ScopeKey, coverage: LockCoverage, now: u64) -> FoundDefunct
+pub fn uncovered_defunct(
+    s: LockState,
+    subject: u16,
+    scope: ScopeKey,
+    coverage: LockCoverage,
+    now: u64,
+) -> FoundDefunct
     ensures { λ r. ⌜ r ≡ uncoveredDefunctOn s subject scope coverage now ⌝ }
 {
     let v = rules::broken(s);

@@ -16,54 +16,43 @@ Inv-loop n defunct hi₀ lo₀ i₀ hi lo i = (i ≤ n) × Columns defunctId bla
 abbrev μ-loop : tie.MeasureT-loop
 μ-loop n defunct hi₀ lo₀ i₀ hi lo i = n - i
 
--- src/chain.rt:49:5
 loop-holds : tie.Need-loop-holds Inv-loop μ-loop
 loop-holds c = (omega arith, record { long = refl; wide = refl; his = λ j h. absurd (omega arith); los = λ j h. absurd (omega arith) })
 
--- src/chain.rt:50:17
 mul-d : tie.Need-mul-d Inv-loop μ-loop
 mul-d c = omega arith
 
--- src/chain.rt:50:17
 array-copy-out-d : tie.Need-array-copy-out-d Inv-loop μ-loop
 array-copy-out-d c = omega arith
 
--- src/chain.rt:52:9
 mul-hi : tie.Need-mul-hi Inv-loop μ-loop
 mul-hi c = omega arith
 
--- src/chain.rt:52:9
 array-write-hi : tie.Need-array-write-hi Inv-loop μ-loop
 array-write-hi c = omega arith
 
--- src/chain.rt:53:9
 mul-lo : tie.Need-mul-lo Inv-loop μ-loop
 mul-lo c = omega arith
 
--- src/chain.rt:53:9
 array-write-lo : tie.Need-array-write-lo Inv-loop μ-loop
 array-write-lo c = omega arith
 
--- src/chain.rt:54:9
 add-i : tie.Need-add-i Inv-loop μ-loop
 add-i c = omega arith
 
--- src/chain.rt:49:5
 loop-less : tie.Need-loop-less Inv-loop μ-loop
 loop-less c = omega arith
 
--- src/chain.rt:49:5
 loop-again : tie.Need-loop-again Inv-loop μ-loop
 unfolding blankDefunct
-loop-again c = 
+loop-again c =
     let o = c .before .before .before in
     let l = o .before .args .t1 in
     let i = o .loop .i in
     let v = o .loop .inv .1 in
     let x = defunctId (getD l i blankDefunct) in
     let in-hi : i < length (o .loop .hi) = omega arith in
-    let in-lo : i < length (o .loop .lo) = omega arith in
-    (
+    let in-lo : i < length (o .loop .lo) = omega arith in (
       omega arith,
       record {
         long = length-set (o .loop .hi) i (x .hi) ∙ v .long;
@@ -73,9 +62,8 @@ loop-again c =
       },
     )
 
--- src/chain.rt:42:1
 returns : tie.Need-returns Inv-loop μ-loop
-returns c = 
+returns c =
     let o = c .before in
     let v = o .loop .inv .1 in
     record { long = v .long; wide = v .wide; his = λ j h. v .his j (omega arith); los = λ j h. v .los j (omega arith) }

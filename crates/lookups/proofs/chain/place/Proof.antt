@@ -18,50 +18,40 @@ Inv-loop hi lo n id i₀ i = (i ≤ n) × ((j : ℕ) → j < i → keyAt hi lo j
 abbrev μ-loop : tie.MeasureT-loop
 μ-loop hi lo n id i₀ i = n - i
 
--- src/chain.rt:65:5
 loop-holds : tie.Need-loop-holds Inv-loop μ-loop
 loop-holds c = (omega arith, λ j h e. omega arith)
 
--- src/chain.rt:66:13
 mul-if1 : tie.Need-mul-if1 Inv-loop μ-loop
 mul-if1 c = omega arith
 
--- src/chain.rt:66:13
 shared-slice-read-if1 : tie.Need-shared-slice-read-if1 Inv-loop μ-loop
 shared-slice-read-if1 c = omega arith
 
--- src/chain.rt:66:32
 mul-if1-2 : tie.Need-mul-if1-2 Inv-loop μ-loop
 mul-if1-2 c = omega arith
 
--- src/chain.rt:66:32
 shared-slice-read-if1-2 : tie.Need-shared-slice-read-if1-2 Inv-loop μ-loop
 shared-slice-read-if1-2 c = omega arith
 
--- src/chain.rt:67:13
 returns : tie.Need-returns Inv-loop μ-loop
 unfolding key
 returns c = inl (c .before .before .before .before .before .loop-test .taken, halves-same _ _ _ _ (c .if1 .taken))
 
--- src/chain.rt:69:9
 add-i : tie.Need-add-i Inv-loop μ-loop
 add-i c = omega arith
 
--- src/chain.rt:65:5
 loop-less : tie.Need-loop-less Inv-loop μ-loop
 loop-less c = omega arith
 
--- src/chain.rt:65:5
 loop-again : tie.Need-loop-again Inv-loop μ-loop
 unfolding key
-loop-again c = 
+loop-again c =
     let k = c .before .before in
     let o = c .before .before .before .before .before .before in
     let p = o .before .args in
     let i = o .loop .i in
     (omega arith, below-more (λ j. keyAt (p .hi .now) (p .lo .now) j ≡ key (p .id) → ⊥) i (o .loop .inv .1) (halves-other (getD (p .hi .now) i 0) (getD (p .lo .now) i 0) (p .id .hi) (p .id .lo) (omega (arith, k .shared-slice-known2 .given i)) (omega arith) (c .if1 .left)))
 
--- src/chain.rt:60:1
 returns-2 : tie.Need-returns-2 Inv-loop μ-loop
 returns-2 c = inr (refl, λ j h. c .before .loop .inv .1 j (omega arith))
 

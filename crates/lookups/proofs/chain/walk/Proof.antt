@@ -53,82 +53,65 @@ the-entry c =
 in-places : (c : tie.Else2 Inv-loop μ-loop) → c .before .place2 .result < 128
 in-places c = omega (arith, c .if2 .left, defuncts-fit _ (c .before .before .before .before .before .before .before .before .before .before .before .before .before .before .before .before .before .before .before .before .pre))
 
--- src/chain.rt:83:13
 active-ids-requires : tie.Need-active-ids-requires Inv-loop μ-loop
 active-ids-requires c κs = actives-fit _ (c .before .pre)
 
--- src/chain.rt:85:13
 defunct-ids-requires : tie.Need-defunct-ids-requires Inv-loop μ-loop
 defunct-ids-requires c κs = defuncts-fit _ (c .before .before .before .pre)
 
--- src/chain.rt:90:5
 loop-holds : tie.Need-loop-holds Inv-loop μ-loop
 loop-holds c = starts _ (c .before .before .before .before .before .pre) _ _ (longD (c .before .before .before .before .before))
 
--- src/chain.rt:91:13
 place-requires : tie.Need-place-requires Inv-loop μ-loop
 place-requires c κs = let w = c .before .before .before .before .before .before .before .before .before .active-ids .ensures in let h = actives-fit _ (c .before .before .before .before .before .before .before .before .before .before .before .pre) in (omega (arith, w .long), omega (arith, w .wide))
 
--- src/chain.rt:93:21
 mul-x : tie.Need-mul-x Inv-loop μ-loop
 mul-x c = omega (arith, c .if1 .taken, actives-fit _ (c .before .before .before .before .before .before .before .before .before .before .before .before .before .pre))
 
--- src/chain.rt:93:21
 element-copy-out-x : tie.Need-element-copy-out-x Inv-loop μ-loop
 element-copy-out-x c = omega (arith, c .if1 .taken, actives-fit _ (c .before .before .before .before .before .before .before .before .before .before .before .before .before .pre))
 
--- src/chain.rt:94:13
 returns : tie.Need-returns Inv-loop μ-loop
 unfolding holderOf blankActive
-returns c = 
+returns c =
     let b = c .before .before .before .before .before .before .before .before .before .before .before .before .before .before in
     let s = b .args .t1 in
     ap toldHeld (ends-held s (b .pre) _ _ _ _ _ _ (c .before .before .before .before .before .before .before .before .loop .inv) _ (found-at activeId blankActive (s .active) (s .actives) _ _ (c .before .before .before .before .before .before .before .before .before .before .before .before .active-ids .ensures) (longA b) _ _ (c .before .before .place .ensures) (actives-ascend s (b .pre)) (c .before .if1 .taken)))
 
--- src/chain.rt:99:13
 place-requires-2 : tie.Need-place-requires-2 Inv-loop μ-loop
 place-requires-2 c κs = let w = c .before .before .before .before .before .before .before .before .before .before .before .before .before .before .defunct-ids .ensures in let h = defuncts-fit _ (c .before .before .before .before .before .before .before .before .before .before .before .before .before .before .before .before .before .before .pre) in (omega (arith, w .long), omega (arith, w .wide))
 
--- src/chain.rt:103:12
 array-read-if3 : tie.Need-array-read-if3 Inv-loop μ-loop
 array-read-if3 c = in-places c
 
--- src/chain.rt:106:9
 array-write-visited : tie.Need-array-write-visited Inv-loop μ-loop
 array-write-visited c = in-places (c .before)
 
--- src/chain.rt:107:17
 mul-y : tie.Need-mul-y Inv-loop μ-loop
 mul-y c = omega (arith, in-places (c .before))
 
--- src/chain.rt:107:17
 element-copy-out-y : tie.Need-element-copy-out-y Inv-loop μ-loop
 element-copy-out-y c = in-places (c .before)
 
--- src/chain.rt:110:9
 add-links : tie.Need-add-links Inv-loop μ-loop
 add-links c = omega (arith, link-fits _ (c .before .before .before .before .before .before .before .before .before .before .before .before .before .before .before .before .before .before .before .before .before .before .before .pre) _ _ _ _ _ _ (c .before .before .before .before .before .before .before .before .before .before .before .before .before .before .before .before .before .loop .inv) (no-active (c .before .before .before .before .before .before .before .before .before .before)) _ (c .before .before .before .if2 .left) (the-entry (c .before .before .before)))
 
--- src/chain.rt:90:5
 loop-less : tie.Need-loop-less Inv-loop μ-loop
 unfolding blankDefunct
 loop-less c = fewer _ (c .before .before .before .before .before .before .before .before .before .before .before .before .before .before .before .before .before .before .before .before .before .before .before .pre) _ _ _ _ _ _ (c .before .before .before .before .before .before .before .before .before .before .before .before .before .before .before .before .before .loop .inv) (no-active (c .before .before .before .before .before .before .before .before .before .before)) _ (c .before .before .before .if2 .left) (the-entry (c .before .before .before))
 
--- src/chain.rt:90:5
 loop-again : tie.Need-loop-again Inv-loop μ-loop
 unfolding blankDefunct
 loop-again c = turns _ (c .before .before .before .before .before .before .before .before .before .before .before .before .before .before .before .before .before .before .before .before .before .before .before .pre) _ _ _ _ _ _ (c .before .before .before .before .before .before .before .before .before .before .before .before .before .before .before .before .before .loop .inv) (no-active (c .before .before .before .before .before .before .before .before .before .before)) _ (c .before .before .before .if2 .left) (the-entry (c .before .before .before))
 
--- src/chain.rt:76:1
 returns-2 : tie.Need-returns-2 Inv-loop μ-loop
 unfolding holderOf
-returns-2 c = 
+returns-2 c =
     let b = c .before .before .before .before .before .before .before .before .before .before .before .before .before .before .before .before .before .before .before .before in
     let s = b .args .t1 in
     ap toldHeld (ends-out s (b .pre) _ _ _ _ _ _ (c .before .before .before .before .before .before .before .before .before .before .before .before .before .before .loop .inv) (no-active (c .before .before .before .before .before .before .before))
     (missed-at defunctId blankDefunct (s .defunct) (s .defuncts) _ _ (c .before .before .before .before .before .before .before .before .before .before .before .before .before .before .before .before .defunct-ids .ensures) (longD b) _ _ (c .before .place2 .ensures) (c .if2 .taken)))
 
--- src/chain.rt:76:1
 returns-3 : tie.Need-returns-3 Inv-loop μ-loop
 returns-3 c = absurd (not-visited _ (c .before .before .before .before .before .before .before .before .before .before .before .before .before .before .before .before .before .before .before .before .before .pre) _ _ _ _ _ _ (c .before .before .before .before .before .before .before .before .before .before .before .before .before .before .before .loop .inv) (no-active (c .before .before .before .before .before .before .before .before)) _ (c .before .if2 .left) (the-entry (c .before)) (c .if3 .taken))
 

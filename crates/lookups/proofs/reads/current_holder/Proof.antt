@@ -9,28 +9,22 @@ use Rattle.lookups.proofs.reads.current_holder.Lts as lts
 use Rattle.lookups.proofs.chain.walk.Reads as walk-reads
 use Rattle.rules.proofs.broken.Reads as broken-reads
 
--- src/reads.rt:174:9
 broken-requires : tie.Need-broken-requires
 broken-requires c κs = search needs
 
--- src/reads.rt:176:25
 enum-known-v : tie.Need-enum-known-v
 enum-known-v c = search needs
 
--- src/reads.rt:177:27
 enum-told : tie.Need-enum-told
 enum-told c = search needs
 
--- src/reads.rt:177:27
 walk-requires : tie.Need-walk-requires
 walk-requires c κs = sym (c .before .before .broken .ensures) ∙ c .enum-told .given .1
 
--- src/reads.rt:171:1
 returns : tie.Need-returns
 unfolding currentHolderOn
 returns c = on-broken _ _ _ _ _ (c .before .before .before .broken .ensures) (c .before .v .given .1)
 
--- src/reads.rt:171:1
 returns-2 : tie.Need-returns-2
 unfolding currentHolderOn
 returns-2 c = c .walk .ensures ∙ on-sound _ _ _ _ (c .before .before .before .broken .ensures) (c .before .enum-told .given .1)

@@ -14,31 +14,25 @@ use Rattle.lookups.proofs.reads.tester_present_needed.Lts as lts
 use Rattle.lookups.proofs.search.is_needed.Reads as is-needed-reads
 use Rattle.rules.proofs.broken.Reads as broken-reads
 
--- src/reads.rt:145:9
 broken-requires : tie.Need-broken-requires
 broken-requires c κs = search needs
 
--- src/reads.rt:147:25
 enum-known-v : tie.Need-enum-known-v
 enum-known-v c = search needs
 
--- src/reads.rt:149:17
 enum-told : tie.Need-enum-told
 enum-told c = search needs
 
--- src/reads.rt:150:23
 is-needed-requires : tie.Need-is-needed-requires
-is-needed-requires c κs = 
+is-needed-requires c κs =
     let e = sym (c .before .before .before .broken .ensures) ∙ c .before .enum-told .given .1 in
     let f = facts-of-state _ e in
     (actives-fit _ e, alone-of _ (f .order) (f .two))
 
--- src/reads.rt:142:1
 returns : tie.Need-returns
 unfolding testerPresentNeededOn
 returns c = on-broken _ _ _ _ _ (c .before .before .before .broken .ensures) (c .before .v .given .1)
 
--- src/reads.rt:142:1
 returns-2 : tie.Need-returns-2
 unfolding testerPresentNeededOn
 returns-2 c = ap Is (c .is-needed .ensures) ∙ on-sound _ _ _ _ (c .before .before .before .before .broken .ensures) (c .before .before .enum-told .given .1)

@@ -25,52 +25,41 @@ abbrev μ-loop : tie.MeasureT-loop
 long : (c : tie.Start Inv-loop μ-loop) → c .args .n ≤ length (c .args .t1)
 long c = let e : length (c .args .t1) ≡ 64 = search (needs, length-of-mapped) in omega arith
 
--- src/search.rt:181:9
 scope-of-requires : tie.Need-scope-of-requires Inv-loop μ-loop
 scope-of-requires c κs = tt
 
--- src/search.rt:183:5
 loop-holds : tie.Need-loop-holds Inv-loop μ-loop
 loop-holds c = (omega arith, refl)
 
--- src/search.rt:184:17
 mul-a : tie.Need-mul-a Inv-loop μ-loop
 mul-a c = omega arith
 
--- src/search.rt:184:17
 array-copy-out-a : tie.Need-array-copy-out-a Inv-loop μ-loop
 array-copy-out-a c = omega arith
 
--- src/search.rt:185:9
 add-i : tie.Need-add-i Inv-loop μ-loop
 add-i c = omega arith
 
--- src/search.rt:186:12
 on-scope-requires : tie.Need-on-scope-requires Inv-loop μ-loop
 on-scope-requires c κs = tt
 
--- src/search.rt:188:13
 own-need-requires : tie.Need-own-need-requires Inv-loop μ-loop
 own-need-requires c κs = c .before .before .before .before .before .before .before .pre .0
 
--- src/search.rt:188:13
 returns : tie.Need-returns Inv-loop μ-loop
-returns c = 
+returns c =
     let b = c .before .before .before .before .before in
     let h = sym (b .before .loop .inv .1) ∙ find-yes _ _ _ _ _ (b .loop-test .taken) (long (b .before .before .before)) (sym (c .before .before .before .on-scope .ensures) ∙ c .before .before .if1 .taken) in
     c .own-need .ensures ∙ one-needs _ _ (b .before .before .before .pre .1) _ (b .before .before .scope-of .ensures) _ h
 
--- src/search.rt:183:5
 loop-less : tie.Need-loop-less Inv-loop μ-loop
 loop-less c = omega arith
 
--- src/search.rt:183:5
 loop-again : tie.Need-loop-again Inv-loop μ-loop
 loop-again c = let b = c .before .before .before in (omega arith, sym (find-no _ _ _ _ _ (b .loop-test .taken) (long (b .before .before .before)) (sym (c .before .on-scope .ensures) ∙ c .if1 .left)) ∙ b .before .loop .inv .1)
 
--- src/search.rt:177:1
 returns-2 : tie.Need-returns-2 Inv-loop μ-loop
-returns-2 c = 
+returns-2 c =
     let b = c .before in
     none-needs (take (b .before .before .args .n) (b .before .before .args .t1)) _ _ (b .before .scope-of .ensures) (sym (b .loop .inv .1) ∙ find-end _ _ _ _ (b .loop .inv .0) (c .loop-test .left))
 

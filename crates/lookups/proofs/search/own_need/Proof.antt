@@ -7,24 +7,19 @@ use Rattle.lookups.proofs.search.own_need.Reads as reads
 use Rattle.lookups.proofs.search.own_need.Lts as lts
 use Rattle.lookups.proofs.search.has_group.Reads as has-group-reads
 
--- src/search.rt:171:28
 enum-known-t : tie.Need-enum-known-t
 enum-known-t c = search needs
 
--- src/search.rt:171:35
 has-group-requires : tie.Need-has-group-requires
 has-group-requires c κs = search needs
 
--- src/search.rt:172:41
 enum-told : tie.Need-enum-told
 enum-told c = search needs
 
--- src/search.rt:166:1
 returns : tie.Need-returns
 unfolding ownNeed
 returns c = rw (c .before .before .t .given .1, c .has-group .ensures) (non-code _)
 
--- src/search.rt:166:1
 returns-2 : tie.Need-returns-2
 unfolding ownNeed
 returns-2 c = rw (c .enum-told .given .1)

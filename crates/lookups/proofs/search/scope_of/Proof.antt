@@ -5,20 +5,16 @@ use Rattle.lookups.proofs.search.scope_of.Tie as tie
 use Rattle.lookups.proofs.search.scope_of.Reads as reads
 use Rattle.lookups.proofs.search.scope_of.Lts as lts
 
--- src/search.rt:160:28
 enum-known-t : tie.Need-enum-known-t
 enum-known-t c = search needs
 
--- src/search.rt:161:35
 enum-known-t-2 : tie.Need-enum-known-t-2
 enum-known-t-2 c = search needs
 
--- src/search.rt:156:1
 returns : tie.Need-returns
 unfolding scopeOf
 returns c = rw (c .before .t .given .1)
 
--- src/search.rt:156:1
 returns-2 : tie.Need-returns-2
 unfolding scopeOf
 returns-2 c = rw (c .before .t2 .given .1)
