@@ -79,14 +79,14 @@ module _ (l : List ActiveLock) (t : TesterPresent) where
   needs-is a = by-scope l t (a .lock .subject) (a .lock .scope)
 
   -- no lock on the scope: none needs it
-  pub none-needs : find (onScope (scopeOf t)) l ≡ none → false ≡ any (needs l t) l
-  none-needs e = sym (→no (any (needs l t) l) (λ u.
+  pub none-needs : (k : ScopeKey) → k ≡ scopeOf t → find (onScope k) l ≡ none → false ≡ any (needs l t) l
+  none-needs k q e = sym (→no (any (needs l t) l) (λ u.
       let w = any→ (needs l t) l u in
-      find-none→ (onScope (scopeOf t)) l e (w .1) (and-l _ _ (sym (needs-is (w .0)) ∙ w .2))))
+      find-none→ (onScope (scopeOf t)) l (rw q at e) (w .1) (and-l _ _ (sym (needs-is (w .0)) ∙ w .2))))
 
   -- the lock on the scope says it
-  pub one-needs : Alone l → (a : ActiveLock) → find (onScope (scopeOf t)) l ≡ some a → ownNeed l (a .lock .subject) t ≡ any (needs l t) l
-  one-needs one a e = same-test (ownNeed l (a .lock .subject) t) (any (needs l t) l)
+  pub one-needs : Alone l → (k : ScopeKey) → k ≡ scopeOf t → (a : ActiveLock) → find (onScope k) l ≡ some a → ownNeed l (a .lock .subject) t ≡ any (needs l t) l
+  one-needs one k q a e = same-test (ownNeed l (a .lock .subject) t) (any (needs l t) l)
       (λ u. →any (needs l t) (f .0) (needs-is a ∙ and-i _ _ (f .1) u))
       (λ u.
       let w = any→ (needs l t) l u in
@@ -94,7 +94,7 @@ module _ (l : List ActiveLock) (t : TesterPresent) where
       subst (λ (x : ActiveLock). Yes (ownNeed l (x .lock .subject) t)) (one (scopeOf t) (w .0) a (w .1) (f .0) (and-l _ _ v) (f .1)) (and-r _ _ v))
     where
       f : Mem a l × Yes (onScope (scopeOf t) a)
-      f = find→ (onScope (scopeOf t)) l e
+      f = find→ (onScope (scopeOf t)) l (rw q at e)
 
 -- ---- rule 2 as a statement
 pub alone-of : (m : Model) → inOrder m ≡ true → rule2 m ≡ true → Alone (m .active)

@@ -2,14 +2,18 @@
 -- state, a sound state the rest. Said once, for every answer.
 -- Assumes nothing.
 use mathlib.Core.Path.{_≡_, refl, sym, _∙_}
+use mathlib.Core.Bool.{true}
 use Prim.Native.Nat.{ℕ, _≤_}
 use borrow.Author.Tests.{leb-true}
 use Rattle.lists.proofs.Tests.{and-l, and-r}
+use Rattle.lists.specs.Lists.{ascending}
 use Rattle.state.specs.declared.LockState.{LockState}
+use Rattle.state.specs.Locks.{akey, dkey}
+use Rattle.state.specs.Model.{modelOf}
 use Rattle.rules.specs.declared.Verdict.{Verdict}
 use Rattle.rules.specs.declared.Verdict.the-variants.{Sound, Broken}
-use Rattle.rules.specs.Rules.{brokenRule, rule0}
-use Rattle.rules.proofs.Sound.{rule0-of}
+use Rattle.rules.specs.Rules.{brokenRule, rule0, inOrder}
+use Rattle.rules.proofs.Sound.{rule0-of, facts-of-state}
 use Rattle.lookups.specs.Reads.{byVerdict, onSound}
 
 module _ {A : Type 0} (s : LockState) (u : ℕ → A) (a : A) (v : Verdict) where
@@ -31,3 +35,12 @@ module _ (s : LockState) (e : brokenRule s ≡ Sound) where
   pub defuncts-fit : s .defuncts ≤ 128
   unfolding rule0
   defuncts-fit = leb-true (s .defuncts) 128 (and-r _ _ (and-l _ _ (and-l _ _ (and-l _ _ (rule0-of s e)))))
+
+  -- and its lists ascend
+  pub actives-ascend : ascending akey (modelOf s .active) ≡ true
+  unfolding inOrder
+  actives-ascend = and-l _ _ (facts-of-state s e .order)
+
+  pub defuncts-ascend : ascending dkey (modelOf s .defunct) ≡ true
+  unfolding inOrder
+  defuncts-ascend = and-r _ _ (facts-of-state s e .order)

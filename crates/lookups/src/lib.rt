@@ -8,6 +8,7 @@ use state::ScopeKey;
 ghost use mathlib.Core.Path.{_≡_};
 ghost use Rattle.lookups.specs.Reads.{onScope, narrow, groupOver, coversDefunct, uncovered};
 
+mod chain;
 pub mod reads;
 mod search;
 

@@ -2,6 +2,7 @@
 // SPDX-License-Identifier: Apache-2.0
 use crate::FoundActive;
 use crate::FoundDefunct;
+use crate::Holder;
 use crate::Listed;
 use crate::Narrow;
 use crate::Needed;
@@ -12,10 +13,11 @@ use coverage::LockCoverage;
 use ids::LockId;
 use rules::Verdict;
 use state::ActiveLock;
+use state::DefunctLock;
 use state::LockState;
 use state::ScopeKey;
 ghost use mathlib.Core.Path.{_≡_};
-ghost use Rattle.lookups.specs.Reads.{revisionOn, activeForScopeOn, activeByIdOn, defunctByIdOn, activeAtOn, defunctAtOn, coveredNarrowOn, coveringGroupOn, testerPresentForOn, testerPresentNeededOn, uncoveredDefunctOn};
+ghost use Rattle.lookups.specs.Reads.{revisionOn, activeForScopeOn, activeByIdOn, defunctByIdOn, activeAtOn, defunctAtOn, coveredNarrowOn, coveringGroupOn, testerPresentForOn, testerPresentNeededOn, uncoveredDefunctOn, currentHolderOn};
 
 pub fn revision(s: LockState) -> Revision
     ensures { λ r. ⌜ r ≡ revisionOn s ⌝ }
@@ -139,6 +141,19 @@ pub fn tester_present_for(s: LockState, subject: u16, scope: ScopeKey) -> Needed
     }
 }
 
+pub fn tester_present_needed(s: LockState, t: TesterPresent) -> Truth
+    ensures { λ r. ⌜ r ≡ testerPresentNeededOn s t ⌝ }
+{
+    let v = rules::broken(s);
+    match v {
+        Verdict::Broken(rule) => Truth::UnsoundState(rule),
+        Verdict::Sound => {
+            let l = s.active;
+            Truth::Is(crate::search::is_needed(l, s.actives, t))
+        }
+    }
+}
+
 pub fn uncovered_defunct(
     s: LockState,
     subject: u16,
@@ -155,5 +170,16 @@ pub fn uncovered_defunct(
             let t = s.defunct;
             crate::search::find_uncovered(t, s.defuncts, subject, scope, coverage, now)
         }
+    }
+}
+
+// Who holds what replaced the record, and how many defunct entries the walk passed after it: at most 128.
+pub fn current_holder(s: LockState, d: DefunctLock) -> Holder
+    ensures { λ r. ⌜ r ≡ currentHolderOn s d ⌝ }
+{
+    let v = rules::broken(s);
+    match v {
+        Verdict::Broken(rule) => Holder::UnsoundState(rule),
+        Verdict::Sound => crate::chain::walk(s, d),
     }
 }

@@ -18,6 +18,7 @@ ghost use lib.ListN.{take};
 ghost use Rattle.lists.specs.Lists.{find, filter, any};
 ghost use Rattle.state.specs.Locks.{hasId, hasIdD};
 ghost use Rattle.lookups.specs.Reads.{toldA, toldD, idsTold, onScope, narrow, groupOver, uncovered, presentFor, toldPresent, needs};
+ghost use Rattle.lookups.specs.Code.{scopeOf, ownNeed, Alone};
 
 pub(crate) fn find_scope(active: [ActiveLock; 64], n: usize, scope: ScopeKey) -> FoundActive
     requires { ⌜ n ≤ 64 ⌝ }
@@ -161,4 +162,43 @@ pub(crate) fn present_for(
             Needed::Present(TesterPresent::Ecu(e))
         }
     }
+}
+
+// The scope of the lock that may need it.
+fn scope_of(t: TesterPresent) -> ScopeKey
+    ensures { λ r. ⌜ r ≡ scopeOf t ⌝ }
+{
+    match t {
+        TesterPresent::Ecu(e) => ScopeKey::Ecu(e),
+        TesterPresent::Functional(g) => ScopeKey::FunctionalGroup(g),
+    }
+}
+
+// Whether the subject's lock on that scope needs just this.
+fn own_need(active: [ActiveLock; 64], n: usize, subject: u16, t: TesterPresent) -> bool
+    requires { ⌜ n ≤ 64 ⌝ }
+    ensures { λ r. ⌜ r ≡ ownNeed (take n active) subject t ⌝ }
+{
+    match t {
+        TesterPresent::Ecu(e) => !has_group(active, n, subject, e),
+        TesterPresent::Functional(_) => true,
+    }
+}
+
+// Whether some lock needs this: there is one lock a scope, so the one on its scope tells.
+pub(crate) fn is_needed(active: [ActiveLock; 64], n: usize, t: TesterPresent) -> bool
+    requires { ⌜ (n ≤ 64) × Alone (take n active) ⌝ }
+    ensures { λ r. ⌜ r ≡ any (needs (take n active) t) (take n active) ⌝ }
+{
+    let k = scope_of(t);
+    let mut i: usize = 0;
+    while i < n {
+        let a = active[i];
+        i += 1;
+        if crate::on_scope(k, a) {
+            let l = a.lock;
+            return own_need(active, n, l.subject, t);
+        }
+    }
+    false
 }

@@ -8,15 +8,12 @@ use Rattle.lookups.proofs.group_over.Lts as lts
 use Rattle.coverage.proofs.LockCoverage.contains_ecu.Reads as contains-ecu-reads
 use Rattle.state.proofs.is_group.Reads as is-group-reads
 
--- src/lib.rt:100:5
 is-group-requires : tie.Need-is-group-requires
 is-group-requires c κs = search needs
 
--- src/lib.rt:100:51
 contains-ecu-requires : tie.Need-contains-ecu-requires
 contains-ecu-requires c κs = search needs
 
--- src/lib.rt:94:1
 returns : tie.Need-returns
 unfolding groupOver
 returns c = simp codes (rw (c .contains-ecu .ensures, c .before .before .is-group .ensures))

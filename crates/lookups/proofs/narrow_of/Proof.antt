@@ -8,15 +8,12 @@ use Rattle.lookups.proofs.narrow_of.Lts as lts
 use Rattle.state.proofs.ecu_in.Reads as ecu-in-reads
 use Rattle.state.proofs.is_group.Reads as is-group-reads
 
--- src/lib.rt:80:5
 is-group-requires : tie.Need-is-group-requires
 is-group-requires c κs = search needs
 
--- src/lib.rt:80:53
 ecu-in-requires : tie.Need-ecu-in-requires
 ecu-in-requires c κs = search needs
 
--- src/lib.rt:72:1
 returns : tie.Need-returns
 unfolding narrow
 returns c = simp codes (rw (c .ecu-in .ensures, c .before .before .before .is-group .ensures))

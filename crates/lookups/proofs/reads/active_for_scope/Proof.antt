@@ -9,28 +9,22 @@ use Rattle.lookups.proofs.reads.active_for_scope.Lts as lts
 use Rattle.lookups.proofs.search.find_scope.Reads as find-scope-reads
 use Rattle.rules.proofs.broken.Reads as broken-reads
 
--- src/reads.rt:33:9
 broken-requires : tie.Need-broken-requires
 broken-requires c κs = search needs
 
--- src/reads.rt:35:25
 enum-known-v : tie.Need-enum-known-v
 enum-known-v c = search needs
 
--- src/reads.rt:37:17
 enum-told : tie.Need-enum-told
 enum-told c = search needs
 
--- src/reads.rt:38:13
 find-scope-requires : tie.Need-find-scope-requires
 find-scope-requires c κs = actives-fit _ (sym (c .before .before .before .broken .ensures) ∙ c .before .enum-told .given .1)
 
--- src/reads.rt:30:1
 returns : tie.Need-returns
 unfolding activeForScopeOn
 returns c = on-broken _ _ _ _ _ (c .before .before .before .broken .ensures) (c .before .v .given .1)
 
--- src/reads.rt:30:1
 returns-2 : tie.Need-returns-2
 unfolding activeForScopeOn
 returns-2 c = c .find-scope .ensures ∙ on-sound _ _ _ _ (c .before .before .before .before .broken .ensures) (c .before .before .enum-told .given .1)

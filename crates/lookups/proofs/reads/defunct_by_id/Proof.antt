@@ -9,28 +9,22 @@ use Rattle.lookups.proofs.reads.defunct_by_id.Lts as lts
 use Rattle.lookups.proofs.search.find_defunct.Reads as find-defunct-reads
 use Rattle.rules.proofs.broken.Reads as broken-reads
 
--- src/reads.rt:59:9
 broken-requires : tie.Need-broken-requires
 broken-requires c κs = search needs
 
--- src/reads.rt:61:25
 enum-known-v : tie.Need-enum-known-v
 enum-known-v c = search needs
 
--- src/reads.rt:63:17
 enum-told : tie.Need-enum-told
 enum-told c = search needs
 
--- src/reads.rt:64:13
 find-defunct-requires : tie.Need-find-defunct-requires
 find-defunct-requires c κs = defuncts-fit _ (sym (c .before .before .before .broken .ensures) ∙ c .before .enum-told .given .1)
 
--- src/reads.rt:56:1
 returns : tie.Need-returns
 unfolding defunctByIdOn
 returns c = on-broken _ _ _ _ _ (c .before .before .before .broken .ensures) (c .before .v .given .1)
 
--- src/reads.rt:56:1
 returns-2 : tie.Need-returns-2
 unfolding defunctByIdOn
 returns-2 c = c .find-defunct .ensures ∙ on-sound _ _ _ _ (c .before .before .before .before .broken .ensures) (c .before .before .enum-told .given .1)

@@ -23,39 +23,30 @@ abbrev μ-loop : tie.MeasureT-loop
 long : (c : tie.Start Inv-loop μ-loop) → c .args .n ≤ length (c .args .t1)
 long c = let e : length (c .args .t1) ≡ 64 = search (needs, length-of-mapped) in omega arith
 
--- src/search.rt:40:5
 loop-holds : tie.Need-loop-holds Inv-loop μ-loop
 loop-holds c = (omega arith, refl)
 
--- src/search.rt:41:17
 mul-a : tie.Need-mul-a Inv-loop μ-loop
 mul-a c = omega arith
 
--- src/search.rt:41:17
 array-copy-out-a : tie.Need-array-copy-out-a Inv-loop μ-loop
 array-copy-out-a c = omega arith
 
--- src/search.rt:42:9
 add-i : tie.Need-add-i Inv-loop μ-loop
 add-i c = omega arith
 
--- src/search.rt:43:12
 has-id-requires : tie.Need-has-id-requires Inv-loop μ-loop
 has-id-requires c κs = tt
 
--- src/search.rt:44:13
 returns : tie.Need-returns Inv-loop μ-loop
 returns c = let b = c .before .before .before in ap toldA (sym (find-yes _ _ _ _ _ (b .loop-test .taken) (long (b .before .before)) (sym (c .before .has-id .ensures) ∙ c .if1 .taken)) ∙ b .before .loop .inv .1)
 
--- src/search.rt:40:5
 loop-less : tie.Need-loop-less Inv-loop μ-loop
 loop-less c = omega arith
 
--- src/search.rt:40:5
 loop-again : tie.Need-loop-again Inv-loop μ-loop
 loop-again c = let b = c .before .before .before in (omega arith, sym (find-no _ _ _ _ _ (b .loop-test .taken) (long (b .before .before)) (sym (c .before .has-id .ensures) ∙ c .if1 .left)) ∙ b .before .loop .inv .1)
 
--- src/search.rt:35:1
 returns-2 : tie.Need-returns-2 Inv-loop μ-loop
 returns-2 c = ap toldA (sym (find-end _ _ _ _ (c .before .loop .inv .0) (c .loop-test .left)) ∙ c .before .loop .inv .1)
 

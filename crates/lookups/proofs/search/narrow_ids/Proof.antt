@@ -42,57 +42,44 @@ room c = omega arith
 told : (l out : List LockId) (w : ℕ) → Holds 64 noId l out w → record { told = Ids w; ids = out } ≡ idsTold l
 told l out w h = rw (h .0, h .1)
 
--- src/search.rt:104:5
 loop-holds : tie.Need-loop-holds Inv-loop μ-loop
 loop-holds c = (omega arith, omega arith, (refl, refl))
 
--- src/search.rt:105:17
 mul-a : tie.Need-mul-a Inv-loop μ-loop
 mul-a c = omega arith
 
--- src/search.rt:105:17
 array-copy-out-a : tie.Need-array-copy-out-a Inv-loop μ-loop
 array-copy-out-a c = omega arith
 
--- src/search.rt:106:9
 add-i : tie.Need-add-i Inv-loop μ-loop
 add-i c = omega arith
 
--- src/search.rt:107:12
 narrow-of-requires : tie.Need-narrow-of-requires Inv-loop μ-loop
 narrow-of-requires c κs = tt
 
--- src/search.rt:110:13
 mul-out : tie.Need-mul-out Inv-loop μ-loop
 mul-out c = omega arith
 
--- src/search.rt:110:13
 array-set-from-out : tie.Need-array-set-from-out Inv-loop μ-loop
 array-set-from-out c = omega arith
 
--- src/search.rt:111:13
 add-w : tie.Need-add-w Inv-loop μ-loop
 add-w c = omega arith
 
--- src/search.rt:104:5
 loop-less : tie.Need-loop-less Inv-loop μ-loop
 loop-less c = omega arith
 
--- src/search.rt:104:5
 loop-again : tie.Need-loop-again Inv-loop μ-loop
 loop-again c = let b = c .before .before .before .before .before in
     (omega arith, omega arith, push 64 noId (kept (b .before)) _ _ _ _ (b .before .loop .inv .2) (room b) (sift-yes _ _ _ _ _ (inside b) (sym (c .before .before .before .narrow-of .ensures) ∙ c .before .before .if1 .taken)))
 
--- src/search.rt:104:5
 loop-less-2 : tie.Need-loop-less-2 Inv-loop μ-loop
 loop-less-2 c = omega arith
 
--- src/search.rt:104:5
 loop-again-2 : tie.Need-loop-again-2 Inv-loop μ-loop
 loop-again-2 c = let b = c .before .before .before in
     (omega arith, omega arith, stay 64 noId (kept (b .before)) _ _ _ (b .before .loop .inv .2) (sift-no _ _ _ _ _ (inside b) (sym (c .before .narrow-of .ensures) ∙ c .if1 .left)))
 
--- src/search.rt:96:1
 returns : tie.Need-returns Inv-loop μ-loop
 returns c =
     let b = c .before in
