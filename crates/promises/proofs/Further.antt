@@ -43,6 +43,15 @@ module _ {A : Type 0} where
   filter-agree p q [] f = refl
   filter-agree p q (x ∷ xs) f = rw (f x, filter-agree p q xs f)
 
+  -- a test that a change leaves may be made before it
+  pub filter-map : {B : Type 0} (p : B → Bool) (g : A → B) (l : List A) → filter p (map g l) ≡ map g (filter (λ a. p (g a)) l)
+  filter-map p g [] = refl
+  filter-map {B} p g (x ∷ xs) = go (p (g x)) (filter-map p g xs)
+    where
+      go : (b : Bool) → filter p (map g xs) ≡ map g (filter (λ a. p (g a)) xs) → cond b (g x ∷ filter p (map g xs)) (filter p (map g xs)) ≡ map g (cond b (x ∷ filter (λ a. p (g a)) xs) (filter (λ a. p (g a)) xs))
+      go true ih = ap (λ (t : List B). g x ∷ t) ih
+      go false ih = ih
+
 -- ---- no number twice in two lists that share none
 pub fresh-append : (s t : List ℕ) → Fresh s → Fresh t → ((n : ℕ) → Mem n s → Mem n t → ⊥) → Fresh (s ++ t)
 fresh-append [] t f g h = g

@@ -11,3 +11,5 @@ pub mod Answered
 pub mod Closing
 pub mod Again
 pub mod Room
+pub mod Links
+pub mod Orders
