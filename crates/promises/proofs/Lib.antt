@@ -13,3 +13,4 @@ pub mod Again
 pub mod Room
 pub mod Links
 pub mod Orders
+pub mod Bench
