@@ -5,7 +5,7 @@
 --     8 comes before 11.4 in a vehicle's insertion
 -- Assumes nothing.
 use mathlib.Core.Path.{_≡_, refl}
-use mathlib.Core.Bool.{Bool, true, false}
+use mathlib.Core.Bool.{true, false}
 use mathlib.Core.List.{List, [], _∷_, map}
 use Prim.Native.Nat.{ℕ}
 use Rattle.lists.specs.Tests.{_and_, _or_, _imp_, non}
@@ -18,9 +18,8 @@ use Rattle.coverage.specs.Coverage.{noCoverage, wholeVehicle, withEcus, wordOf,
 use Rattle.state.specs.declared.ScopeKey.{ScopeKey}
 use Rattle.state.specs.declared.ScopeKey.the-variants.{Vehicle, Ecu, FunctionalGroup}
 use Rattle.state.specs.declared.ActiveLock.{ActiveLock}
-use Rattle.state.specs.declared.DefunctLock.{DefunctLock}
 use Rattle.state.specs.Locks.{akey, isVehicle, isGroup, ecuIn, scopeCode, sameScope, hasId, hasIdD, blankActive, blankDefunct}
-use Rattle.state.specs.Model.{Model, Limits, fits, stateOf}
+use Rattle.state.specs.Model.{Model, fits, stateOf}
 use Rattle.rules.specs.Rules.{zeroId, zeroSet, zeroLock, isBlankA, isBlankD, blanks, inOrder, neatL, neatA, neatD, neat, rule0, rule1, rule2, rule3, rule4, rule5, rule6, rule7, clash, rule8, meetsNone, rule9, brokenRule}
 use Rattle.lookups.specs.Reads.{onSound, onScope, narrow, coversDefunct}
 use Rattle.operations.specs.declared.answers.Answer.the-variants as answer

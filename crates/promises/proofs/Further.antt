@@ -1,14 +1,14 @@
 -- Further laws of lists: changes before and after an insertion, tests one after the other, keys that occur once.
 -- Assumes nothing.
-use mathlib.Core.Path.{_≡_, refl, sym, ap, _∙_}
+use mathlib.Core.Path.{_≡_, refl, ap}
 use mathlib.Core.Bool.{Bool, true, false, cond}
-use mathlib.Core.List.{List, [], _∷_, _++_, map, map-append, List·Memᴰ, List·Memᴰ·head, List·Memᴰ·tail, List·Memᴰ·append-cases, Memᴰ·of-map}
-use mathlib.Core.Logic.{_⊎_, inl, inr}
-use Prim.Native.Nat.{ℕ, zero, suc, _+_, _≤_, _<_}
+use mathlib.Core.List.{List, [], _∷_, _++_, map, List·Memᴰ·head, List·Memᴰ·tail, List·Memᴰ·append-cases, Memᴰ·of-map}
+use mathlib.Core.Logic.{inl, inr}
+use Prim.Native.Nat.{ℕ, suc, _+_}
 use native.Mathlib.Omega.{arith}
 use lib.Dec.{ltb}
 use Rattle.lists.specs.Tests.{_and_, Yes}
-use Rattle.lists.specs.Lists.{filter, Mem, Fresh, from, ascending, insertBy}
+use Rattle.lists.specs.Lists.{filter, Mem, Fresh, from, insertBy}
 use Rattle.lists.proofs.Lists.{from→, rest}
 
 module _ {A : Type 0} (k : A → ℕ) where

@@ -2,8 +2,7 @@
 -- no ring. Entries pointing at a gone one take over its target, so a walk that ended still ends.
 -- Assumes nothing.
 use mathlib.Core.Path.{_≡_, refl, sym, ap, _∙_, subst}
-use mathlib.Core.Bool.{Bool, true, false, cond}
-use mathlib.Core.List.{List, [], _∷_, map, Memᴰ·of-map}
+use mathlib.Core.List.{List, [], _∷_, Memᴰ·of-map}
 use mathlib.Core.Option.{Option, none, some, Option·map, Option·none-ne-some, Option·some-injective}
 use Prim.Native.Nat.{ℕ, _≤_}
 use native.Mathlib.Omega.{arith}
@@ -11,9 +10,9 @@ use native.Mathlib.Decide.{ℕ-discrete}
 use lib.ListN.{length, length-map}
 use lib.Dec.{eqb}
 use borrow.Author.Tests.{eq-eqb, ne-eqb, eqb-true}
-use Rattle.lists.specs.Tests.{non, Yes, No}
+use Rattle.lists.specs.Tests.{Yes}
 use Rattle.lists.specs.Lists.{find, filter, Mem, ascending}
-use Rattle.lists.proofs.Tests.{against, →no, non-yes, yes-non, cond-both}
+use Rattle.lists.proofs.Tests.{against, non-yes, yes-non, cond-both}
 use Rattle.lists.proofs.Lists.{filter→, find→, find-miss, find-filter, find-map, filter-le, from-filter, from-map}
 use Rattle.ids.specs.declared.LockId.{LockId}
 use Rattle.ids.specs.Order.{key}
@@ -21,7 +20,7 @@ use Rattle.state.specs.declared.Lock.{Lock}
 use Rattle.state.specs.declared.ActiveLock.{ActiveLock}
 use Rattle.state.specs.declared.DefunctLock.{DefunctLock}
 use Rattle.state.specs.Locks.{dkey, hasIdD}
-use Rattle.rules.specs.Rules.{findD, neatD}
+use Rattle.rules.specs.Rules.{findD}
 use Rattle.rules.proofs.Ends.{Ends, done, step}
 use Rattle.operations.specs.Table.{redirect, other, dropEntry, dropFound, removeD, removeAll, superseded, supersede}
 use Rattle.promises.proofs.Core.{Acyclic}

@@ -14,3 +14,4 @@ pub mod Room
 pub mod Links
 pub mod Orders
 pub mod Bench
+pub mod Closed

@@ -2,20 +2,19 @@
 -- entries it passed, which are the only ones that can be followed from the record, at most as many as there are, and for a
 -- stored record one less. Assumes nothing.
 use mathlib.Core.Path.{_≡_, refl, sym, ap, ap₂, subst, _∙_}
-use mathlib.Core.Bool.{Bool, true, false}
+use mathlib.Core.Bool.{true}
 use mathlib.Core.List.{List, [], _∷_}
 use mathlib.Core.Option.{Option, none, some, Option·none-ne-some, Option·some-injective}
-use mathlib.Core.Logic.{_⊎_, inl, inr}
 use Prim.Native.Nat.{ℕ, zero, suc, _+_, _-_, _≤_, _<_}
 use native.Mathlib.Omega.{arith}
-use native.Mathlib.Nat.{add-zero, add-suc}
+use native.Mathlib.Nat.{add-zero}
 use lib.ListN.{length}
-use lib.Dec.{eqb, leb}
+use lib.Dec.{eqb}
 use borrow.Author.Tests.{leb-true}
-use Rattle.lists.specs.Tests.{_and_, non, Yes, No}
-use Rattle.lists.specs.Lists.{Mem, find}
-use Rattle.lists.proofs.Tests.{against, non-yes, and-l, and-r}
-use Rattle.lists.proofs.Lists.{→any, find→, find-miss, find-key}
+use Rattle.lists.specs.Tests.{_and_, Yes, No}
+use Rattle.lists.specs.Lists.{Mem}
+use Rattle.lists.proofs.Tests.{against, non-yes, and-r}
+use Rattle.lists.proofs.Lists.{→any, find-miss, find-key}
 use Rattle.ids.specs.Order.{key}
 use Rattle.state.specs.declared.ActiveLock.{ActiveLock}
 use Rattle.state.specs.declared.DefunctLock.{DefunctLock}
@@ -25,10 +24,10 @@ use Rattle.state.specs.Model.{Model, modelOf, Limits, full, fits}
 use Rattle.rules.specs.declared.Verdict.the-variants.{Sound}
 use Rattle.rules.specs.Rules.{findA, findD, hasD, brokenRule, sound}
 use Rattle.rules.proofs.Sound.{sound-of}
-use Rattle.rules.proofs.Ends.{Ends, leaves, leaves-all}
+use Rattle.rules.proofs.Ends.{leaves, leaves-all}
 use Rattle.lookups.specs.Reads.{Held, held, walk, holderOf}
 use Rattle.promises.specs.Links.{Stops, Follows}
-use Rattle.promises.proofs.Core.{Core, Stands, stands-of}
+use Rattle.promises.proofs.Core.{stands-of}
 
 -- ---- what can be followed is one
 stops-one : (m : Model) (k h s u : ℕ) (o : Option ActiveLock) → Stops m k h s o → Stops m k h u o → s ≡ u

@@ -1,16 +1,15 @@
 -- Entries that go in any order leave one table, where the table has no ring: two entries may go one before the other or the
 -- other way round, so a list of entries may go in any order. Superseding and expiry are such lists. Assumes nothing.
-use mathlib.Core.Path.{_≡_, refl, sym, ap, ap₂, subst, _∙_}
-use mathlib.Core.Bool.{Bool, true, false, cond}
-use mathlib.Core.List.{List, [], _∷_, map, map-map, map-congr-left}
+use mathlib.Core.Path.{_≡_, refl, sym, ap, _∙_}
+use mathlib.Core.List.{List, map, map-map, map-congr-left}
 use mathlib.Core.Option.{Option, none, some, Option·map, Option·none-ne-some, Option·some-injective}
 use mathlib.Core.Logic.{_⊎_, inl, inr}
 use Prim.Native.Nat.{ℕ}
 use native.Mathlib.Decide.{ℕ-discrete}
 use lib.Dec.{eqb}
-use borrow.Author.Tests.{eq-eqb, ne-eqb, eqb-true}
-use Rattle.lists.specs.Tests.{_and_, non, Yes, No}
-use Rattle.lists.specs.Lists.{find, filter}
+use borrow.Author.Tests.{eq-eqb, eqb-true}
+use Rattle.lists.specs.Tests.{_and_, non, Yes}
+use Rattle.lists.specs.Lists.{filter}
 use Rattle.lists.proofs.Tests.{and-comm}
 use Rattle.lists.proofs.Lists.{find→}
 use Rattle.ids.specs.declared.LockId.{LockId}
@@ -25,8 +24,8 @@ use Rattle.rules.proofs.Ends.{Ends, done, step}
 use Rattle.operations.specs.Table.{redirect, other, dropEntry, dropFound, removeD, removeAll, superseded, supersede}
 use Rattle.promises.specs.Orders.{Reordered, same, keep, swap, twice}
 use Rattle.promises.proofs.Further.{filter-filter, filter-agree, filter-map}
-use Rattle.promises.proofs.Core.{Acyclic, Core, Stands, stands-of}
-use Rattle.promises.proofs.Going.{redirect-lock, redirect-key, redirect-miss, drop-gone, drop-kept, ends-removeD}
+use Rattle.promises.proofs.Core.{Acyclic, stands-of}
+use Rattle.promises.proofs.Going.{redirect-lock, redirect-key, redirect-miss, drop-kept, ends-removeD}
 
 -- ---- one entry, redirected past two that go
 abbrev aimed : DefunctLock → DefunctLock → DefunctLock

@@ -3,11 +3,11 @@
 -- number and values, the removed locks, and what is left. The claim that every row holds stands in proofs/Bench.antt.
 -- What a row leaves out: exclusive, principal and metadata 0, a vehicle lock's coverage whole, the renewal's target 200,
 -- expiry 100, who broke and when 0.
-use mathlib.Core.Bool.{Bool, true, false, cond}
+use mathlib.Core.Bool.{Bool, true, false}
 use mathlib.Core.List.{List, [], _∷_, map}
 use Prim.Native.Nat.{ℕ}
 use lib.Dec.{eqb}
-use lib.ListN.{length, take}
+use lib.ListN.{take}
 use Rattle.lists.specs.Tests.{_and_}
 use Rattle.ids.specs.declared.LockId.{LockId}
 use Rattle.ids.specs.Order.{key, noId}
