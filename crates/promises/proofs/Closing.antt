@@ -63,7 +63,7 @@ by-verdict {A} P s u a f g = go (brokenRule s) refl
     go (Broken n) e = f n
 
 -- ---- the closing check of a next state that is sound
-closes : {A : Type 0} (P : A → Type 0) (m : Model) (a b : A) → Yes (sound full m) → (brokenRule (stateOf m) ≡ Sound → P a) → P (cond (isSound (brokenRule (stateOf m))) a b)
+pub closes : {A : Type 0} (P : A → Type 0) (m : Model) (a b : A) → Yes (sound full m) → (brokenRule (stateOf m) ≡ Sound → P a) → P (cond (isSound (brokenRule (stateOf m))) a b)
 closes P m a b t f = let g = sound-state m t in rw (cond-true (isSound (brokenRule (stateOf m))) a b (ap isSound g)) (f g)
 
 -- ---- no judgement is the closing check's answer
@@ -85,7 +85,7 @@ settled {A} s a m d e r keep = go (isDone a) refl
     go true q = closes (λ (x : A). x ≡ d) m d e (keep (is-done a q)) (λ g. refl)
     go false q = refl
 
-on-sound : {A : Type 0} (s : LockState) (u : ℕ → A) (a : A) → brokenRule s ≡ Sound → onSound s u a ≡ a
+pub on-sound : {A : Type 0} (s : LockState) (u : ℕ → A) (a : A) → brokenRule s ≡ Sound → onSound s u a ≡ a
 unfolding onSound
 on-sound s u a e = ap (λ (v : Verdict). byVerdict v u a) e
 

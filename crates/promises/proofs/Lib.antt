@@ -15,3 +15,4 @@ pub mod Links
 pub mod Orders
 pub mod Bench
 pub mod Closed
+pub mod Agree
