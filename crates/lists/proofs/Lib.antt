@@ -4,3 +4,5 @@ pub mod Below
 pub mod Places
 pub mod Loops
 pub mod Shifts
+pub mod First
+pub mod Further

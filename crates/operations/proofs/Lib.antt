@@ -1,1 +1,9 @@
+-- What other crates' proofs cite of the operations, and document 01's traps.
+pub mod Flags
+pub mod Going
+pub mod Leaving
+pub mod Coming
+pub mod Closing
+pub mod Renewing
+pub mod Papers
 pub mod Traps

@@ -19,6 +19,7 @@ use Rattle.state.specs.Model.{Model, modelOf, stateOf, full}
 use Rattle.rules.specs.declared.Verdict.the-variants.{Sound}
 use Rattle.rules.specs.Rules.{brokenRule, isSound, sound}
 use Rattle.rules.proofs.Sound.{sound-of, tidy-of-sound}
+use Rattle.lookups.proofs.Verdicts.{on-sound}
 use Rattle.operations.specs.declared.answers.Renewal.{Renewal}
 use Rattle.operations.specs.declared.answers.Renewal.the-variants as renewal
 use Rattle.operations.specs.declared.answers.Inserted.{Inserted}
@@ -38,7 +39,7 @@ use Rattle.operations.specs.Replace.{judgeReplace}
 use Rattle.operations.specs.Acknowledge.{acknowledgedTo, acknowledgeOn, lapsed, shedTo, expireDefunctOn}
 use Rattle.promises.specs.Steps.{Op, insertActive, insertVehicle, renew, delete, beginExpiration, commitReplacement, acknowledge, expireDefunct, afterRenewal, afterDelete, afterExpiration, step, stepOn}
 use Rattle.promises.proofs.Keeps.{renew-keeps, delete-keeps}
-use Rattle.promises.proofs.Closing.{closes, on-sound, insert-exactly, vehicle-exactly, replace-exactly}
+use Rattle.promises.proofs.Closing.{closes, insert-exactly, vehicle-exactly, replace-exactly}
 
 -- a choice on both sides
 choose : {A : Type 0} (f : A → LockState) (b : Bool) (x y : A) (u v : Model) → f x ≡ stateOf u → f y ≡ stateOf v → f (cond b x y) ≡ stateOf (cond b u v)
@@ -85,15 +86,15 @@ module _ (s : LockState) (t : s ≡ stateOf (modelOf s)) (e : brokenRule s ≡ S
   step-agrees (insertVehicle y ws) =
       ap (λ (r : Inserted). r .state) (vehicle-exactly s y ws e) ∙ choose (λ (r : Inserted). r .state) (isDone (judgeVehicle full (modelOf s) (normal y) ws)) _ _ _ (modelOf s) refl t
   step-agrees (renew i f now has d) =
-      ap (λ (r : Renewed). r .state) (on-sound s _ _ e) ∙ renew-agrees (judgeRenew (modelOf s) i f now) (renewedIn (modelOf s) i f has d) (renew-keeps (modelOf s) i f has d full (sound-of s e))
-  step-agrees (delete i) = ap (λ (r : Deleted). r .state) (on-sound s _ _ e) ∙ delete-agrees i (find (hasId i) (modelOf s .active))
-  step-agrees (beginExpiration i now) = ap (λ (r : Expired). r .state) (on-sound s _ _ e) ∙ expiration-agrees now (find (hasId i) (modelOf s .active))
+      ap (λ (r : Renewed). r .state) (sym (on-sound s _ _ (brokenRule s) refl e)) ∙ renew-agrees (judgeRenew (modelOf s) i f now) (renewedIn (modelOf s) i f has d) (renew-keeps (modelOf s) i f has d full (sound-of s e))
+  step-agrees (delete i) = ap (λ (r : Deleted). r .state) (sym (on-sound s _ _ (brokenRule s) refl e)) ∙ delete-agrees i (find (hasId i) (modelOf s .active))
+  step-agrees (beginExpiration i now) = ap (λ (r : Expired). r .state) (sym (on-sound s _ _ (brokenRule s) refl e)) ∙ expiration-agrees now (find (hasId i) (modelOf s .active))
   step-agrees (commitReplacement ws y by at) =
       ap (λ (r : Replaced). r .state) (replace-exactly s ws y by at e) ∙ choose (λ (r : Replaced). r .state) (isDone (judgeReplace full (modelOf s) ws (normal y) by at)) _ _ _ (modelOf s) refl t
   step-agrees (acknowledge i) =
-      ap (λ (r : Acknowledged). r .state) (on-sound s _ _ e) ∙ choose (λ (r : Acknowledged). r .state) (any (hasIdD i) (modelOf s .defunct)) _ _ _ (modelOf s) refl t
+      ap (λ (r : Acknowledged). r .state) (sym (on-sound s _ _ (brokenRule s) refl e)) ∙ choose (λ (r : Acknowledged). r .state) (any (hasIdD i) (modelOf s .defunct)) _ _ _ (modelOf s) refl t
   step-agrees (expireDefunct now) =
-      ap (λ (r : DefunctsExpired). r .state) (on-sound s _ _ e) ∙ choose (λ (r : DefunctsExpired). r .state) (any (lapsed now) (modelOf s .defunct)) _ _ _ (modelOf s) (shed-state s _ _) t
+      ap (λ (r : DefunctsExpired). r .state) (sym (on-sound s _ _ (brokenRule s) refl e)) ∙ choose (λ (r : DefunctsExpired). r .state) (any (lapsed now) (modelOf s .defunct)) _ _ _ (modelOf s) (shed-state s _ _) t
 
 -- of an accepted state whose arrays have their lengths
 pub steps-agree : (s : LockState) → length (s .active) ≡ 64 → length (s .defunct) ≡ 128 → brokenRule s ≡ Sound → (o : Op) → stepOn s o ≡ stateOf (step full (modelOf s) o)

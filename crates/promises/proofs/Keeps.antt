@@ -30,7 +30,7 @@ use Rattle.operations.specs.Renew.{extended, extendAt, renewedIn}
 use Rattle.operations.specs.Delete.{withoutTree}
 use Rattle.operations.specs.Replace.{orphan, cutOf, enteredOf, replacedIn, judgeReplace}
 use Rattle.operations.specs.Acknowledge.{shedIn}
-use Rattle.promises.proofs.Further.{insert-map}
+use Rattle.lists.proofs.Further.{insert-map}
 use Rattle.promises.proofs.Passed.{then-done, done-is}
 use Rattle.promises.proofs.Core.{Parent, Core, stands-of, sound-by}
 use Rattle.promises.proofs.Going.{Shrinks, removeD-shrinks, removeAll-shrinks, supersede-shrinks}

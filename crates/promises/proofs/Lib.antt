@@ -1,4 +1,3 @@
-pub mod Further
 pub mod Passed
 pub mod Core
 pub mod Going

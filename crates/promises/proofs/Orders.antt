@@ -22,18 +22,16 @@ use Rattle.state.specs.Model.{Model, Limits}
 use Rattle.rules.specs.Rules.{findD, sound}
 use Rattle.rules.proofs.Ends.{Ends, done, step}
 use Rattle.operations.specs.Table.{redirect, other, dropEntry, dropFound, removeD, removeAll, superseded, supersede}
+use Rattle.operations.specs.Code.{tookOver}
+use Rattle.operations.proofs.Leaving.{redirect-yes, redirect-lock}
 use Rattle.promises.specs.Orders.{Reordered, same, keep, swap, twice}
-use Rattle.promises.proofs.Further.{filter-filter, filter-agree, filter-map}
+use Rattle.lists.proofs.Further.{filter-filter, filter-agree, filter-map}
 use Rattle.promises.proofs.Core.{Acyclic, stands-of}
-use Rattle.promises.proofs.Going.{redirect-lock, redirect-key, redirect-miss, drop-kept, ends-removeD}
+use Rattle.promises.proofs.Going.{redirect-key, redirect-miss, drop-kept, ends-removeD}
 
 -- ---- one entry, redirected past two that go
-abbrev aimed : DefunctLock → DefunctLock → DefunctLock
-aimed e d = record { lock = d .lock; target = e .target; expires = d .expires; broken = d .broken; breaker = d .breaker; holder = e .holder }
-
-hit : (e d : DefunctLock) → key (d .target) ≡ dkey e → redirect e d ≡ aimed e d
-unfolding redirect
-hit e d q = rw (eq-eqb _ _ q)
+hit : (e d : DefunctLock) → key (d .target) ≡ dkey e → redirect e d ≡ tookOver e d
+hit e d q = sym (redirect-yes e d (eq-eqb _ _ q))
 
 -- d points at f
 past-first : (e f d : DefunctLock) → (dkey e ≡ dkey f → ⊥) → (key (e .target) ≡ dkey f → key (f .target) ≡ dkey e → ⊥) → key (d .target) ≡ dkey f
@@ -41,10 +39,10 @@ past-first : (e f d : DefunctLock) → (dkey e ≡ dkey f → ⊥) → (key (e .
 past-first e f d n ring q = elim (ℕ-discrete (key (f .target)) (dkey e)) [
   | yes u ↦
       let v : redirect f e ≡ e = redirect-miss f e (λ w. ring w u) in
-      rw (v, hit f d q, redirect-miss e d (λ w. n (sym w ∙ q)), hit e f u) (hit e (aimed f d) u ∙ sym (hit (aimed e f) d q))
+      rw (v, hit f d q, redirect-miss e d (λ w. n (sym w ∙ q)), hit e f u) (hit e (tookOver f d) u ∙ sym (hit (tookOver e f) d q))
   | no u ↦
       rw (redirect-miss e f u, redirect-miss e d (λ w. n (sym w ∙ q)), hit f d q)
-      (redirect-miss (redirect f e) (aimed f d) (λ w. u (w ∙ redirect-key f e)))
+      (redirect-miss (redirect f e) (tookOver f d) (λ w. u (w ∙ redirect-key f e)))
 ]
 
 past-both : (e f d : DefunctLock) → (dkey e ≡ dkey f → ⊥) → (key (e .target) ≡ dkey f → key (f .target) ≡ dkey e → ⊥)

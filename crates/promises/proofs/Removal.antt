@@ -20,7 +20,7 @@ use Rattle.state.specs.Locks.{akey, isVehicle, ecuIn, hasId}
 use Rattle.state.specs.Model.{Model}
 use Rattle.lookups.specs.Reads.{narrow}
 use Rattle.operations.specs.Trees.{childOf, inTree, Parts, takeParts, treeParts, rootParts, cutAll, startParts, isListed, rootsParts}
-use Rattle.promises.proofs.Further.{fresh-from, fresh-append, filter-filter, filter-agree}
+use Rattle.lists.proofs.Further.{fresh-from, fresh-append, filter-filter, filter-agree}
 use Rattle.promises.proofs.Core.{Parent, Core}
 use Rattle.promises.proofs.Keeping.{made, core-filter}
 
