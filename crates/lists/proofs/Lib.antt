@@ -5,3 +5,4 @@ pub mod Places
 pub mod Loops
 pub mod Shifts
 pub mod First
+pub mod Further

@@ -65,7 +65,7 @@ module _ (e d : DefunctLock) where
   unfolding redirect
   redirect-no t = rw t
 
-  redirect-lock : redirect e d .lock ≡ d .lock
+  pub redirect-lock : redirect e d .lock ≡ d .lock
   unfolding redirect
   redirect-lock = go (eqb (key (d .target)) (dkey e))
     where

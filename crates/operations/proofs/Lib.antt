@@ -1,8 +1,9 @@
+-- What other crates' proofs cite of the operations, and document 01's traps.
 pub mod Flags
 pub mod Going
 pub mod Leaving
 pub mod Coming
--- What other crates' proofs cite of the operations.
 pub mod Closing
 pub mod Renewing
 pub mod Papers
+pub mod Traps

@@ -4,8 +4,8 @@
 --     accepted-again   what the test accepts it accepts again after any operation, refused or not
 -- The contracts of the code's functions say that their results are those of these definitions, so this is demand 3 of the
 -- code: from LockState::empty() or any state that the test accepts, every state met is accepted. Assumes nothing.
-use mathlib.Core.Path.{_≡_, refl, sym, ap, _∙_}
-use mathlib.Core.Bool.{Bool, true, false}
+use mathlib.Core.Path.{_≡_, refl, ap}
+use mathlib.Core.Bool.{Bool, true}
 use mathlib.Core.List.{List, [], _∷_}
 use Prim.Native.Nat.{ℕ}
 use lib.Dec.{eqb}
@@ -25,6 +25,13 @@ use Rattle.operations.specs.declared.answers.Deletion.the-variants as deletion
 use Rattle.operations.specs.declared.answers.Expiration.the-variants as expiration
 use Rattle.operations.specs.declared.answers.Acknowledgement.the-variants as acknowledgement
 use Rattle.operations.specs.declared.answers.DefunctExpiry.the-variants as expiry
+use Rattle.operations.specs.declared.answers.Inserted.{Inserted}
+use Rattle.operations.specs.declared.answers.Replaced.{Replaced}
+use Rattle.operations.specs.declared.answers.Renewed.{Renewed}
+use Rattle.operations.specs.declared.answers.Deleted.{Deleted}
+use Rattle.operations.specs.declared.answers.Expired.{Expired}
+use Rattle.operations.specs.declared.answers.Acknowledged.{Acknowledged}
+use Rattle.operations.specs.declared.answers.DefunctsExpired.{DefunctsExpired}
 use Rattle.operations.specs.Answers.{paperOf, renewalPaper, deletionPaper, expirationPaper}
 use Rattle.operations.specs.Insert.{insertActiveOn}
 use Rattle.operations.specs.Vehicle.{insertVehicleOn}
@@ -79,6 +86,40 @@ accepted-again s e (beginExpiration i now) = expiration-comes (λ r. brokenRule 
 accepted-again s e (commitReplacement ws y by at) = replace-comes (λ r. brokenRule (r .state) ≡ Sound) s ws y by at (λ b n. e) (λ d g. g)
 accepted-again s e (acknowledge i) = acknowledge-comes (λ r. brokenRule (r .state) ≡ Sound) s i (λ b n. e) (λ b n g. g)
 accepted-again s e (expireDefunct now) = expire-defunct-comes (λ r. brokenRule (r .state) ≡ Sound) s now (λ b n. e) (λ b l n g. g)
+
+-- the same in the words of the functions' contracts
+module _ (s : LockState) (e : brokenRule s ≡ Sound) where
+  pub insert-active-accepted : (y : ActiveLock) (r : Inserted) → r ≡ insertActiveOn s y → brokenRule (r .state) ≡ Sound
+  unfolding stepOn
+  insert-active-accepted y r q = rw q (accepted-again s e (insertActive y))
+
+  pub insert-vehicle-accepted : (y : ActiveLock) (ws : List ℕ) (r : Inserted) → r ≡ insertVehicleOn s y ws → brokenRule (r .state) ≡ Sound
+  unfolding stepOn
+  insert-vehicle-accepted y ws r q = rw q (accepted-again s e (insertVehicle y ws))
+
+  pub renew-accepted : (i : LockId) (t now : ℕ) (has : Bool) (d : ℕ) (r : Renewed) → r ≡ renewOn s i t now has d → brokenRule (r .state) ≡ Sound
+  unfolding stepOn
+  renew-accepted i t now has d r q = rw q (accepted-again s e (renew i t now has d))
+
+  pub delete-accepted : (i : LockId) (r : Deleted) → r ≡ deleteOn s i → brokenRule (r .state) ≡ Sound
+  unfolding stepOn
+  delete-accepted i r q = rw q (accepted-again s e (delete i))
+
+  pub begin-expiration-accepted : (i : LockId) (now : ℕ) (r : Expired) → r ≡ beginExpirationOn s i now → brokenRule (r .state) ≡ Sound
+  unfolding stepOn
+  begin-expiration-accepted i now r q = rw q (accepted-again s e (beginExpiration i now))
+
+  pub commit-replacement-accepted : (ws : List ℕ) (y : ActiveLock) (by at : ℕ) (r : Replaced) → r ≡ commitReplacementOn s ws y by at → brokenRule (r .state) ≡ Sound
+  unfolding stepOn
+  commit-replacement-accepted ws y by at r q = rw q (accepted-again s e (commitReplacement ws y by at))
+
+  pub acknowledge-accepted : (i : LockId) (r : Acknowledged) → r ≡ acknowledgeOn s i → brokenRule (r .state) ≡ Sound
+  unfolding stepOn
+  acknowledge-accepted i r q = rw q (accepted-again s e (acknowledge i))
+
+  pub expire-defunct-accepted : (now : ℕ) (r : DefunctsExpired) → r ≡ expireDefunctOn s now → brokenRule (r .state) ≡ Sound
+  unfolding stepOn
+  expire-defunct-accepted now r q = rw q (accepted-again s e (expireDefunct now))
 
 -- every state met is accepted
 pub accepted-every : (s : LockState) → brokenRule s ≡ Sound → (os : List Op) → all (λ t. isSound (brokenRule t)) (runsOn s os) ≡ true

@@ -1,7 +1,7 @@
 -- What the checks of insertions and replacement answer: each refuses by its own answer, never by NoRoom, Invariant or
 -- UnsoundState; and each operation's judgement is its checks before 13, then 13.
 -- Assumes nothing.
-use mathlib.Core.Path.{_≡_, refl, sym, ap, _∙_}
+use mathlib.Core.Path.{_≡_, refl, ap, _∙_}
 use mathlib.Core.Bool.{Bool, true, false, cond}
 use mathlib.Core.List.{List}
 use mathlib.Core.Option.{Option, none, some}

@@ -1,20 +1,20 @@
 -- What each check says once it has passed.
 -- Assumes nothing.
-use mathlib.Core.Path.{_≡_, refl, sym, ap, _∙_}
-use mathlib.Core.Bool.{Bool, true, false, cond, false≢true}
+use mathlib.Core.Path.{_≡_, refl, sym, _∙_}
+use mathlib.Core.Bool.{Bool, true, false, false≢true}
 use mathlib.Core.List.{List, [], _∷_, List·Memᴰ·not-nil}
-use mathlib.Core.Option.{Option, none, some, Option·none-ne-some, Option·some-ne-none}
-use mathlib.Core.Logic.{_⊎_, inl, inr}
+use mathlib.Core.Option.{Option, none, some, Option·some-ne-none}
+use mathlib.Core.Logic.{inl, inr}
 use Prim.Native.Nat.{ℕ}
 use lib.Dec.{eqb}
 use borrow.Author.Tests.{eq-eqb, eqb-true}
 use Rattle.lists.specs.Tests.{_and_, _or_, non, Yes, No}
-use Rattle.lists.specs.Lists.{any, find, filter, Mem}
-use Rattle.lists.proofs.Tests.{against, →no, non-yes, yes-non, and-l, and-r, and-i, or-no, and-no, cond-true, cond-both}
+use Rattle.lists.specs.Lists.{find, filter, Mem}
+use Rattle.lists.proofs.Tests.{against, →no, and-i, or-no, and-no, cond-true, cond-both}
 use Rattle.lists.proofs.Lists.{any→, →any, →filter, find→, find-none→, find-cases}
 use Rattle.ids.specs.declared.LockId.{LockId}
-use Rattle.ids.specs.Order.{key, sameId, beforeId}
-use Rattle.ids.specs.Words.{idsOf, listedIn, lower, lowestOf}
+use Rattle.ids.specs.Order.{sameId, beforeId}
+use Rattle.ids.specs.Words.{idsOf, listedIn, lowestOf}
 use Rattle.coverage.specs.Coverage.{within}
 use Rattle.state.specs.declared.ActiveLock.{ActiveLock}
 use Rattle.state.specs.declared.DefunctLock.{DefunctLock}
@@ -23,9 +23,9 @@ use Rattle.state.specs.Model.{Model, Limits, fits}
 use Rattle.lookups.specs.Reads.{onScope}
 use Rattle.operations.specs.declared.answers.Answer.{Answer}
 use Rattle.operations.specs.declared.answers.Answer.the-variants.{Done}
-use Rattle.operations.specs.Answers.{isDone, refuseIf, andThen}
+use Rattle.operations.specs.Answers.{isDone}
 use Rattle.operations.specs.Trees.{isListed}
-use Rattle.operations.specs.Checks.{checkId, checkScope, checkParent, checkFound, checkNesting, conflicts, checkConflict, checkClear, checkRoom, checkRoot, missing, settledLock, unfitId, toldListed, checkListed, unfitChild, toldChild, checkChildren}
+use Rattle.operations.specs.Checks.{checkId, checkScope, checkParent, checkFound, checkNesting, conflicts, checkClear, checkRoom, checkRoot, missing, settledLock, unfitId, toldListed, checkListed, unfitChild, toldChild, checkChildren}
 use Rattle.promises.proofs.Passed.{went-on}
 use Rattle.promises.proofs.Core.{Parent}
 

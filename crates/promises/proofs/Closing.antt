@@ -3,7 +3,7 @@
 -- Assumes nothing.
 use mathlib.Core.Path.{_≡_, refl, sym, ap, _∙_}
 use mathlib.Core.Bool.{Bool, true, false, cond}
-use mathlib.Core.List.{List, [], _∷_}
+use mathlib.Core.List.{List, []}
 use mathlib.Core.Option.{Option, none, some}
 use Prim.Native.Nat.{ℕ}
 use lib.Dec.{leb, ltb, eqb}
@@ -12,7 +12,6 @@ use Rattle.lists.specs.Lists.{any, find}
 use Rattle.lists.proofs.Tests.{cond-both, cond-true}
 use Rattle.ids.specs.declared.LockId.{LockId}
 use Rattle.state.specs.declared.ActiveLock.{ActiveLock}
-use Rattle.state.specs.declared.DefunctLock.{DefunctLock}
 use Rattle.state.specs.declared.LockState.{LockState}
 use Rattle.state.specs.Locks.{hasId, hasIdD, normal}
 use Rattle.state.specs.Model.{Model, modelOf, stateOf, Limits, full, fits}
@@ -21,6 +20,7 @@ use Rattle.rules.specs.declared.Verdict.the-variants.{Sound, Broken}
 use Rattle.rules.specs.Rules.{brokenRule, isSound, sound}
 use Rattle.rules.proofs.Sound.{sound-of, sound-state}
 use Rattle.lookups.specs.Reads.{byVerdict, onSound}
+use Rattle.lookups.proofs.Verdicts.{on-sound}
 use Rattle.operations.specs.declared.answers.Answer.{Answer}
 use Rattle.operations.specs.declared.answers.Answer.the-variants.{Done, Invariant, UnsoundState, NoRoom}
 use Rattle.operations.specs.declared.answers.Renewal.{Renewal}
@@ -64,7 +64,7 @@ by-verdict {A} P s u a f g = go (brokenRule s) refl
     go (Broken n) e = f n
 
 -- ---- the closing check of a next state that is sound
-closes : {A : Type 0} (P : A → Type 0) (m : Model) (a b : A) → Yes (sound full m) → (brokenRule (stateOf m) ≡ Sound → P a) → P (cond (isSound (brokenRule (stateOf m))) a b)
+pub closes : {A : Type 0} (P : A → Type 0) (m : Model) (a b : A) → Yes (sound full m) → (brokenRule (stateOf m) ≡ Sound → P a) → P (cond (isSound (brokenRule (stateOf m))) a b)
 closes P m a b t f = let g = sound-state m t in rw (cond-true (isSound (brokenRule (stateOf m))) a b (ap isSound g)) (f g)
 
 -- ---- no judgement is the closing check's answer
@@ -86,28 +86,24 @@ settled {A} s a m d e r keep = go (isDone a) refl
     go true q = closes (λ (x : A). x ≡ d) m d e (keep (is-done a q)) (λ g. refl)
     go false q = refl
 
-on-sound : {A : Type 0} (s : LockState) (u : ℕ → A) (a : A) → brokenRule s ≡ Sound → onSound s u a ≡ a
-unfolding onSound
-on-sound s u a e = ap (λ (v : Verdict). byVerdict v u a) e
-
 pub insert-exactly : (s : LockState) (y : ActiveLock) → brokenRule s ≡ Sound
     → insertActiveOn s y
     ≡ cond (isDone (judgeInsert full (modelOf s) (normal y))) (inserted Done (stateOf (insertedIn (modelOf s) (normal y)))) (inserted (judgeInsert full (modelOf s) (normal y)) s)
 unfolding insertActiveOn settledInsert closedInsert
-insert-exactly s y e = on-sound s _ _ e ∙ settled s _ _ _ _ _ (insert-keeps full (modelOf s) (normal y) (normal-neat y) (sound-of s e))
+insert-exactly s y e = sym (on-sound s _ _ (brokenRule s) refl e) ∙ settled s _ _ _ _ _ (insert-keeps full (modelOf s) (normal y) (normal-neat y) (sound-of s e))
 
 pub vehicle-exactly : (s : LockState) (y : ActiveLock) (ws : List ℕ) → brokenRule s ≡ Sound
     → insertVehicleOn s y ws
     ≡ cond (isDone (judgeVehicle full (modelOf s) (normal y) ws)) (inserted Done (stateOf (vehicleIn (modelOf s) (normal y) ws))) (inserted (judgeVehicle full (modelOf s) (normal y) ws) s)
 unfolding insertVehicleOn settledInsert closedInsert
-vehicle-exactly s y ws e = on-sound s _ _ e ∙ settled s _ _ _ _ _ (vehicle-keeps full (modelOf s) (normal y) ws (normal-neat y) (sound-of s e))
+vehicle-exactly s y ws e = sym (on-sound s _ _ (brokenRule s) refl e) ∙ settled s _ _ _ _ _ (vehicle-keeps full (modelOf s) (normal y) ws (normal-neat y) (sound-of s e))
 
 pub replace-exactly : (s : LockState) (ws : List ℕ) (y : ActiveLock) (by at : ℕ) → brokenRule s ≡ Sound
     → commitReplacementOn s ws y by at
     ≡ cond (isDone (judgeReplace full (modelOf s) ws (normal y) by at)) (replaced Done (cutOf (modelOf s) ws .gone) (stateOf (replacedIn (modelOf s) ws (normal y) by at)))
     (replaced (judgeReplace full (modelOf s) ws (normal y) by at) [] s)
 unfolding commitReplacementOn settledReplace closedReplace
-replace-exactly s ws y by at e = on-sound s _ _ e ∙ settled s _ _ _ _ _ (replace-keeps full (modelOf s) ws (normal y) by at (normal-neat y) (sound-of s e))
+replace-exactly s ws y by at e = sym (on-sound s _ _ (brokenRule s) refl e) ∙ settled s _ _ _ _ _ (replace-keeps full (modelOf s) ws (normal y) by at (normal-neat y) (sound-of s e))
 
 -- and so what holds of both holds of the operation
 judged : {A : Type 0} (P : A → Type 0) (a : Answer) (m : Model) (d e r : A) → (a ≡ Done → Yes (sound full m))

@@ -2,16 +2,16 @@
 --     Core m       all rules but the counts: what a replacement keeps while it passes through more entries than fit
 --     Stands k m   Core, and the counts within the limits k
 -- Assumes nothing.
-use mathlib.Core.Path.{_≡_, refl, sym, ap, subst, _∙_}
-use mathlib.Core.Bool.{Bool, true, false, false≢true}
+use mathlib.Core.Path.{_≡_}
+use mathlib.Core.Bool.{Bool, false≢true}
 use mathlib.Core.List.{List}
-use mathlib.Core.Option.{Option, none, some}
-use mathlib.Core.Logic.{_⊎_, inl, inr}
+use mathlib.Core.Option.{Option, some}
+use mathlib.Core.Logic.{inl, inr}
 use Prim.Native.Nat.{ℕ}
 use lib.Dec.{eqb}
 use borrow.Author.Tests.{eq-eqb, eqb-true}
-use Rattle.lists.specs.Tests.{_and_, _imp_, non, Yes, No}
-use Rattle.lists.specs.Lists.{all, any, find, Mem, ascending}
+use Rattle.lists.specs.Tests.{_and_, _imp_, Yes, No}
+use Rattle.lists.specs.Lists.{all, Mem, ascending}
 use Rattle.lists.proofs.Tests.{against, →no, non-yes, yes-non, and-l, and-r, and-i, imp-e, imp-i}
 use Rattle.lists.proofs.Lists.{all→, →all, any→, →any, find→, find-cases, find-key}
 use Rattle.ids.specs.Order.{key}
@@ -20,7 +20,7 @@ use Rattle.state.specs.declared.ActiveLock.{ActiveLock}
 use Rattle.state.specs.declared.DefunctLock.{DefunctLock}
 use Rattle.state.specs.Locks.{akey, dkey, isVehicle, sameScope}
 use Rattle.state.specs.Model.{Model, Limits, fits}
-use Rattle.rules.specs.Rules.{hasD, pairs, ofParent, isSome, parentOf, clash, inOrder, neatA, neatD, neat, rule1, rule2, rule3, rule4, rule5, rule6, rule7, rule8, rule9, sound}
+use Rattle.rules.specs.Rules.{hasD, pairs, ofParent, parentOf, clash, inOrder, neatA, neatD, neat, rule1, rule2, rule3, rule4, rule5, rule6, rule7, rule8, sound}
 use Rattle.rules.proofs.Ends.{Ends, ends-anywhere, rule9-of-ends}
 use Rattle.rules.proofs.Sound.{Facts, facts-of, of-facts}
 

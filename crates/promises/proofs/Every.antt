@@ -1,15 +1,15 @@
 -- Demand 3 over the definitions: whatever operations are done, refused ones included, every state met is sound, from the
 -- empty state and from any sound one, over any limits. Assumes nothing.
-use mathlib.Core.Path.{_≡_, refl, sym, ap, _∙_}
+use mathlib.Core.Path.{_≡_, refl}
 use mathlib.Core.Bool.{Bool, true, false, cond}
 use mathlib.Core.List.{List, [], _∷_}
 use mathlib.Core.Option.{Option, none, some}
 use Prim.Native.Nat.{ℕ, zero-le}
-use lib.Dec.{eqb, leb, ltb}
-use borrow.Author.Tests.{eq-eqb, le-leb}
-use Rattle.lists.specs.Tests.{_and_, _or_, _imp_, Yes, No}
+use lib.Dec.{ltb}
+use borrow.Author.Tests.{le-leb}
+use Rattle.lists.specs.Tests.{_and_, _or_, _imp_, Yes}
 use Rattle.lists.specs.Lists.{all, any, find}
-use Rattle.lists.proofs.Tests.{and-i, or-l, or-r, imp-i, against, cond-both}
+use Rattle.lists.proofs.Tests.{and-i, cond-both}
 use Rattle.coverage.specs.declared.LockCoverage.{LockCoverage}
 use Rattle.coverage.specs.Coverage.{wholeVehicle}
 use Rattle.ids.specs.Order.{noId}
@@ -22,14 +22,10 @@ use Rattle.operations.specs.declared.answers.Answer.the-variants.{Done}
 use Rattle.operations.specs.declared.answers.Renewal.{Renewal}
 use Rattle.operations.specs.declared.answers.Renewal.the-variants as renewal
 use Rattle.operations.specs.Answers.{isDone}
-use Rattle.operations.specs.Table.{removeD, removeAll}
 use Rattle.operations.specs.Checks.{atLast}
-use Rattle.operations.specs.Insert.{insertedIn, judgeInsert}
-use Rattle.operations.specs.Vehicle.{vehicleIn, judgeVehicle}
-use Rattle.operations.specs.Renew.{renewedIn, judgeRenew}
+use Rattle.operations.specs.Renew.{judgeRenew}
 use Rattle.operations.specs.Delete.{withoutTree}
-use Rattle.operations.specs.Replace.{replacedIn, judgeReplace}
-use Rattle.operations.specs.Acknowledge.{shedIn, lapsed, lapsedOf}
+use Rattle.operations.specs.Acknowledge.{lapsed, lapsedOf}
 use Rattle.promises.specs.Steps.{Op, insertActive, insertVehicle, renew, delete, beginExpiration, commitReplacement, acknowledge, expireDefunct, after, afterRenewal, afterDelete, afterExpiration, step, runs}
 use Rattle.promises.proofs.Passed.{is-done}
 use Rattle.promises.proofs.Keeps.{insert-keeps, vehicle-keeps, renew-keeps, delete-keeps, replace-keeps, acknowledge-keeps, expire-keeps}

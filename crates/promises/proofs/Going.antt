@@ -2,45 +2,39 @@
 -- no ring. Entries pointing at a gone one take over its target, so a walk that ended still ends.
 -- Assumes nothing.
 use mathlib.Core.Path.{_≡_, refl, sym, ap, _∙_, subst}
-use mathlib.Core.Bool.{Bool, true, false, cond}
-use mathlib.Core.List.{List, [], _∷_, map, Memᴰ·of-map}
+use mathlib.Core.List.{List, [], _∷_, Memᴰ·of-map}
 use mathlib.Core.Option.{Option, none, some, Option·map, Option·none-ne-some, Option·some-injective}
 use Prim.Native.Nat.{ℕ, _≤_}
 use native.Mathlib.Omega.{arith}
 use native.Mathlib.Decide.{ℕ-discrete}
-use lib.ListN.{length, length-map}
+use lib.ListN.{length}
 use lib.Dec.{eqb}
 use borrow.Author.Tests.{eq-eqb, ne-eqb, eqb-true}
-use Rattle.lists.specs.Tests.{non, Yes, No}
+use Rattle.lists.specs.Tests.{Yes}
 use Rattle.lists.specs.Lists.{find, filter, Mem, ascending}
-use Rattle.lists.proofs.Tests.{against, →no, non-yes, yes-non, cond-both}
-use Rattle.lists.proofs.Lists.{filter→, find→, find-miss, find-filter, find-map, filter-le, from-filter, from-map}
+use Rattle.lists.proofs.Tests.{against, non-yes, yes-non}
+use Rattle.lists.proofs.Lists.{filter→, find→, find-miss, find-filter, find-map, from-filter, from-map}
 use Rattle.ids.specs.declared.LockId.{LockId}
 use Rattle.ids.specs.Order.{key}
 use Rattle.state.specs.declared.Lock.{Lock}
 use Rattle.state.specs.declared.ActiveLock.{ActiveLock}
 use Rattle.state.specs.declared.DefunctLock.{DefunctLock}
 use Rattle.state.specs.Locks.{dkey, hasIdD}
-use Rattle.rules.specs.Rules.{findD, neatD}
+use Rattle.rules.specs.Rules.{findD}
 use Rattle.rules.proofs.Ends.{Ends, done, step}
 use Rattle.operations.specs.Table.{redirect, other, dropEntry, dropFound, removeD, removeAll, superseded, supersede}
+use Rattle.operations.proofs.Leaving.{remove-le, redirect-yes, redirect-no, redirect-lock}
 use Rattle.promises.proofs.Core.{Acyclic}
 
 -- ---- redirection changes target and holder alone
-pub redirect-lock : (e d : DefunctLock) → redirect e d .lock ≡ d .lock
-unfolding redirect
-redirect-lock e d = cond-both (λ x. x .lock ≡ d .lock) _ d (eqb (key (d .target)) (dkey e)) (λ t. refl) (λ t. refl)
-
 pub redirect-key : (e d : DefunctLock) → dkey (redirect e d) ≡ dkey d
 redirect-key e d = ap (λ (x : Lock). key (x .id)) (redirect-lock e d)
 
 redirect-hit : (e d : DefunctLock) → key (d .target) ≡ dkey e → redirect e d .target ≡ e .target
-unfolding redirect
-redirect-hit e d q = rw (eq-eqb _ _ q)
+redirect-hit e d q = ap (λ (x : DefunctLock). x .target) (sym (redirect-yes e d (eq-eqb _ _ q)))
 
 pub redirect-miss : (e d : DefunctLock) → (key (d .target) ≡ dkey e → ⊥) → redirect e d ≡ d
-unfolding redirect
-redirect-miss e d q = rw (ne-eqb _ _ q)
+redirect-miss e d q = sym (redirect-no e d (ne-eqb _ _ q))
 
 pub other-yes : (e d : DefunctLock) → (dkey d ≡ dkey e → ⊥) → Yes (other e d)
 unfolding other hasIdD
@@ -118,10 +112,6 @@ shrinks-trans f g =
     }
 
 module _ (t : List DefunctLock) where
-  drop-len : (o : Option DefunctLock) → length (dropFound o t) ≤ length t
-  drop-len none = omega arith
-  drop-len (some e) = simp length-map (filter-le (other e) t)
-
   drop-order : (o : Option DefunctLock) → Yes (ascending dkey t) → Yes (ascending dkey (dropFound o t))
   drop-order none h = h
   drop-order (some e) h = rw (from-map dkey (redirect e) (redirect-key e)) (from-filter dkey (other e) 0 t h)
@@ -136,7 +126,7 @@ pub removeD-shrinks : (i : LockId) (t : List DefunctLock) → Shrinks t (removeD
 unfolding removeD
 removeD-shrinks i t =
     record {
-      len = drop-len t (find (hasIdD i) t);
+      len = remove-le i t;
       order = drop-order t (find (hasIdD i) t);
       was = drop-was t (find (hasIdD i) t);
       ends = λ e k. ends-removeD i t k (e k);

@@ -2,8 +2,8 @@
 -- that comes, locks that are changed one by one, locks that are taken in by a vehicle lock. Each operation is made of these.
 -- Assumes nothing.
 use mathlib.Core.Path.{_≡_, refl, sym, ap, _∙_, subst}
-use mathlib.Core.Bool.{Bool, true, false, cond}
-use mathlib.Core.List.{List, [], _∷_, map, Memᴰ·of-map, Memᴰ·map}
+use mathlib.Core.Bool.{Bool}
+use mathlib.Core.List.{List, map, Memᴰ·of-map, Memᴰ·map}
 use mathlib.Core.Option.{Option, none, some}
 use mathlib.Core.Logic.{_⊎_, inl, inr}
 use Prim.Native.Nat.{ℕ}
@@ -12,11 +12,11 @@ use native.Mathlib.Decide.{ℕ-discrete}
 use lib.Dec.{eqb}
 use borrow.Author.Tests.{eq-eqb, ne-eqb, eqb-true}
 use Rattle.lists.specs.Tests.{_and_, _or_, non, Yes, No}
-use Rattle.lists.specs.Lists.{find, filter, Mem, ascending, insertBy}
-use Rattle.lists.proofs.Tests.{against, →no, non-yes, yes-non, and-l, and-r, and-i, or-l, and-comm, cond-both, same-test}
+use Rattle.lists.specs.Lists.{filter, Mem, insertBy}
+use Rattle.lists.proofs.Tests.{against, →no, non-yes, and-l, and-r, and-i, or-l, and-comm, cond-both, same-test}
 use Rattle.lists.proofs.Lists.{filter→, →filter, find→, find-hit, find-miss, find-insert, from-filter, from-map, from-insert, insert→, insert-new, insert-old}
 use Rattle.ids.specs.Order.{key}
-use Rattle.coverage.specs.Coverage.{within, overlap}
+use Rattle.coverage.specs.Coverage.{within}
 use Rattle.coverage.proofs.Laws.{overlap-sym}
 use Rattle.state.specs.declared.ScopeKey.{ScopeKey}
 use Rattle.state.specs.declared.ScopeKey.the-variants.{Vehicle, Ecu, FunctionalGroup}

@@ -1,17 +1,16 @@
 -- Keeps: each operation that goes through leaves a sound state, over any limits k. A lock handed in has its plain form
 -- (neatA), which `normal` gives it. Assumes nothing.
 use mathlib.Core.Path.{_≡_, refl, sym, ap, _∙_, subst}
-use mathlib.Core.Bool.{Bool, true, false, cond}
+use mathlib.Core.Bool.{Bool}
 use mathlib.Core.List.{List, [], _∷_, map, List·Memᴰ·head, List·Memᴰ·tail, Memᴰ·map, Memᴰ·cast}
-use mathlib.Core.Logic.{_⊎_, inl, inr}
+use mathlib.Core.Logic.{inl, inr}
 use Prim.Native.Nat.{ℕ, _+_, _≤_}
 use native.Mathlib.Omega.{arith}
-use lib.Dec.{eqb, leb}
 use lib.ListN.{length, length-map}
 use borrow.Author.Tests.{eq-eqb, leb-true, le-leb}
 use Rattle.lists.specs.Tests.{_and_, non, Yes, No}
-use Rattle.lists.specs.Lists.{filter, Mem, Fresh, insertBy}
-use Rattle.lists.proofs.Tests.{against, →no, non-yes, and-l, and-r, and-i, and-f, non-t, cond-both, cond-false}
+use Rattle.lists.specs.Lists.{Mem, Fresh, insertBy}
+use Rattle.lists.proofs.Tests.{against, →no, non-yes, and-l, and-r, and-i, cond-both, cond-false}
 use Rattle.lists.proofs.Lists.{insert→, insert-new, filter-le}
 use Rattle.ids.specs.declared.LockId.{LockId}
 use Rattle.ids.specs.Order.{key}
@@ -20,24 +19,23 @@ use Rattle.state.specs.declared.DefunctLock.{DefunctLock}
 use Rattle.state.specs.Locks.{akey, dkey, isVehicle, hasId}
 use Rattle.state.specs.Model.{Model, Limits, fits}
 use Rattle.rules.specs.Rules.{neatL, neatA, neatD, sound}
-use Rattle.operations.specs.declared.answers.Answer.{Answer}
 use Rattle.operations.specs.declared.answers.Answer.the-variants.{Done}
-use Rattle.operations.specs.Answers.{isDone, andThen}
+use Rattle.operations.specs.Answers.{isDone}
 use Rattle.operations.specs.Table.{removeD, removeAll, supersede, toDefunct, enterAll}
-use Rattle.operations.specs.Trees.{Parts, inTree, treeParts, startParts, isListed, rootsParts}
-use Rattle.operations.specs.Checks.{conflicts, checkId, checkInsert, checkEntry, checkChildren}
+use Rattle.operations.specs.Trees.{Parts, inTree, startParts, isListed}
+use Rattle.operations.specs.Checks.{conflicts, checkInsert, checkEntry}
 use Rattle.operations.specs.Insert.{insertedIn, judgeInsert}
 use Rattle.operations.specs.Vehicle.{nest, adopt, vehicleIn, judgeVehicle}
 use Rattle.operations.specs.Renew.{extended, extendAt, renewedIn}
 use Rattle.operations.specs.Delete.{withoutTree}
 use Rattle.operations.specs.Replace.{orphan, cutOf, enteredOf, replacedIn, judgeReplace}
 use Rattle.operations.specs.Acknowledge.{shedIn}
-use Rattle.promises.proofs.Further.{insert-map}
+use Rattle.lists.proofs.Further.{insert-map}
 use Rattle.promises.proofs.Passed.{then-done, done-is}
-use Rattle.promises.proofs.Core.{Parent, Core, Stands, stands-of, sound-by}
+use Rattle.promises.proofs.Core.{Parent, Core, stands-of, sound-by}
 use Rattle.promises.proofs.Going.{Shrinks, removeD-shrinks, removeAll-shrinks, supersede-shrinks}
 use Rattle.promises.proofs.Keeping.{made, core-shed, Comes, comes-on, one-vehicle, core-insert, Same, core-map, Adopts, core-adopt, core-enter}
-use Rattle.promises.proofs.Removal.{tree-kept, core-tree, Split, Cut, cut-roots}
+use Rattle.promises.proofs.Removal.{tree-kept, core-tree, Cut, cut-roots}
 use Rattle.promises.proofs.Checked.{id-ok, scope-ok, nest-ok, clear-ok, room-ok, root-ok, children-ok, listed-low, listed-old}
 
 -- ---- fewer locks and entries fit where more did

@@ -1,4 +1,15 @@
-pub mod Further
+-- The theorems, by file. Over the definitions on lists, under any limits k:
+--     Keeps     each operation that goes through leaves a sound state
+--     Every     every state met is sound, from empty and from any sound state (demand 3)
+--     Room      NoRoom exactly where the same operation without limits is done and ends over a limit
+--     Links     the holder's walk ends, its count is the number of entries passed, at most 128 (127 for a stored record)
+--     Orders    entries go in any order to one result
+--     Closed    a tree is closed under parents; overlap is symmetric
+-- On the state, as the code's contracts say it:
+--     Again     no operation answers the closing check's Invariant; what the test accepts it accepts again (demand 3)
+--     Agree     the steps on lists and on states are one
+--     Bench     the bench sheet's twelve starred rows
+-- The other files have what these are made of.
 pub mod Passed
 pub mod Core
 pub mod Going
@@ -10,4 +21,9 @@ pub mod Every
 pub mod Answered
 pub mod Closing
 pub mod Again
+pub mod Agree
 pub mod Room
+pub mod Links
+pub mod Orders
+pub mod Closed
+pub mod Bench

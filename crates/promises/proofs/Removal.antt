@@ -1,28 +1,26 @@
 -- Trees of active locks that go. A tree is closed under parents: what stays keeps its parent. What went was active, is
 -- not among what stays, and has no id twice. Assumes nothing.
-use mathlib.Core.Path.{_≡_, refl, sym, ap, _∙_, subst}
-use mathlib.Core.Bool.{Bool, true, false, cond}
-use mathlib.Core.List.{List, [], _∷_, _++_, map, map-append, List·Memᴰ·append-cases, List·Memᴰ·not-nil, Memᴰ·of-map}
+use mathlib.Core.Path.{_≡_, refl, sym, _∙_, subst}
+use mathlib.Core.Bool.{Bool, true, false}
+use mathlib.Core.List.{List, [], _∷_, map, map-append, List·Memᴰ·append-cases, List·Memᴰ·not-nil, Memᴰ·of-map}
 use mathlib.Core.Logic.{_⊎_, inl, inr}
-use Prim.Native.Nat.{ℕ, _≤_}
-use native.Mathlib.Omega.{arith}
+use Prim.Native.Nat.{ℕ}
 use lib.Dec.{eqb}
-use lib.ListN.{length}
 use borrow.Author.Tests.{eq-eqb, eqb-true}
 use Rattle.lists.specs.Tests.{_and_, _or_, non, Yes, No}
 use Rattle.lists.specs.Lists.{any, filter, Mem, Fresh, ascending}
-use Rattle.lists.proofs.Tests.{against, →no, non-yes, yes-non, and-l, and-r, and-i, or-e, or-l, or-r, cond-both}
-use Rattle.lists.proofs.Lists.{filter→, filter-le, from-filter, from-unique}
+use Rattle.lists.proofs.Tests.{against, →no, non-yes, yes-non, and-l, and-r, and-i, or-e, or-l, cond-both}
+use Rattle.lists.proofs.Lists.{filter→, from-filter, from-unique}
 use Rattle.ids.specs.Order.{key}
 use Rattle.coverage.specs.declared.LockCoverage.{LockCoverage}
 use Rattle.state.specs.declared.ScopeKey.{ScopeKey}
 use Rattle.state.specs.declared.ScopeKey.the-variants.{Vehicle, Ecu, FunctionalGroup}
 use Rattle.state.specs.declared.ActiveLock.{ActiveLock}
-use Rattle.state.specs.Locks.{akey, isVehicle, isGroup, ecuIn, hasId}
+use Rattle.state.specs.Locks.{akey, isVehicle, ecuIn, hasId}
 use Rattle.state.specs.Model.{Model}
 use Rattle.lookups.specs.Reads.{narrow}
 use Rattle.operations.specs.Trees.{childOf, inTree, Parts, takeParts, treeParts, rootParts, cutAll, startParts, isListed, rootsParts}
-use Rattle.promises.proofs.Further.{fresh-from, fresh-append, filter-filter, filter-agree}
+use Rattle.lists.proofs.Further.{fresh-from, fresh-append, filter-filter, filter-agree}
 use Rattle.promises.proofs.Core.{Parent, Core}
 use Rattle.promises.proofs.Keeping.{made, core-filter}
 

@@ -1,13 +1,12 @@
 -- NoRoom exactly where the same operation without limits goes through and ends over a limit: under limits k it answers 13
 -- if and only if under any limits j that hold what it leaves (`holding` are the least such) it is done, and what it leaves
 -- does not fit k. The other five operations have no such answer. Assumes nothing.
-use mathlib.Core.Path.{_≡_, refl, sym, ap, _∙_}
-use mathlib.Core.Bool.{Bool, true, false, cond}
+use mathlib.Core.Path.{_≡_, refl, sym, _∙_}
+use mathlib.Core.Bool.{true, false}
 use mathlib.Core.List.{List}
 use mathlib.Core.Logic.{_↔_}
 use Prim.Native.Nat.{ℕ}
 use native.Mathlib.Omega.{arith}
-use lib.Dec.{leb}
 use lib.ListN.{length}
 use borrow.Author.Tests.{le-leb}
 use Rattle.lists.specs.Tests.{_and_, non, Yes, No}

@@ -1,15 +1,15 @@
 -- Further laws of lists: changes before and after an insertion, tests one after the other, keys that occur once.
 -- Assumes nothing.
-use mathlib.Core.Path.{_≡_, refl, sym, ap, _∙_}
+use mathlib.Core.Path.{_≡_, refl, ap}
 use mathlib.Core.Bool.{Bool, true, false, cond}
-use mathlib.Core.List.{List, [], _∷_, _++_, map, map-append, List·Memᴰ, List·Memᴰ·head, List·Memᴰ·tail, List·Memᴰ·append-cases, Memᴰ·of-map}
-use mathlib.Core.Logic.{_⊎_, inl, inr}
-use Prim.Native.Nat.{ℕ, zero, suc, _+_, _≤_, _<_}
+use mathlib.Core.List.{List, [], _∷_, _++_, map, List·Memᴰ·head, List·Memᴰ·tail, List·Memᴰ·append-cases, Memᴰ·of-map}
+use mathlib.Core.Logic.{inl, inr}
+use Prim.Native.Nat.{ℕ, suc, _+_}
 use native.Mathlib.Omega.{arith}
 use lib.Dec.{ltb}
 use Rattle.lists.specs.Tests.{_and_, Yes}
-use Rattle.lists.specs.Lists.{filter, Mem, Fresh, from, ascending, insertBy}
+use Rattle.lists.specs.Lists.{filter, Mem, Fresh, from, insertBy}
 use Rattle.lists.proofs.Lists.{from→, rest}
 
 module _ {A : Type 0} (k : A → ℕ) where
   -- what changes no key may be done before an insertion or after it
@@ -42,6 +42,15 @@ module _ {A : Type 0} where
   pub filter-agree : (p q : A → Bool) (l : List A) → ((a : A) → p a ≡ q a) → filter p l ≡ filter q l
   filter-agree p q [] f = refl
   filter-agree p q (x ∷ xs) f = rw (f x, filter-agree p q xs f)
+
+  -- a test that a change leaves may be made before it
+  pub filter-map : {B : Type 0} (p : B → Bool) (g : A → B) (l : List A) → filter p (map g l) ≡ map g (filter (λ a. p (g a)) l)
+  filter-map p g [] = refl
+  filter-map {B} p g (x ∷ xs) = go (p (g x)) (filter-map p g xs)
+    where
+      go : (b : Bool) → filter p (map g xs) ≡ map g (filter (λ a. p (g a)) xs) → cond b (g x ∷ filter p (map g xs)) (filter p (map g xs)) ≡ map g (cond b (x ∷ filter (λ a. p (g a)) xs) (filter (λ a. p (g a)) xs))
+      go true ih = ap (λ (t : List B). g x ∷ t) ih
+      go false ih = ih
 
 -- ---- no number twice in two lists that share none
 pub fresh-append : (s t : List ℕ) → Fresh s → Fresh t → ((n : ℕ) → Mem n s → Mem n t → ⊥) → Fresh (s ++ t)
