@@ -1,11 +1,5 @@
 // The reads of the original, by its names. Each tests the state first.
 // SPDX-License-Identifier: Apache-2.0
-use coverage::LockCoverage;
-use ids::LockId;
-use rules::Verdict;
-use state::ActiveLock;
-use state::LockState;
-use state::ScopeKey;
 use crate::FoundActive;
 use crate::FoundDefunct;
 use crate::Listed;
@@ -14,6 +8,12 @@ use crate::Needed;
 use crate::Revision;
 use crate::TesterPresent;
 use crate::Truth;
+use coverage::LockCoverage;
+use ids::LockId;
+use rules::Verdict;
+use state::ActiveLock;
+use state::LockState;
+use state::ScopeKey;
 ghost use mathlib.Core.Path.{_≡_};
 ghost use Rattle.lookups.specs.Reads.{revisionOn, activeForScopeOn, activeByIdOn, defunctByIdOn, activeAtOn, defunctAtOn, coveredNarrowOn, coveringGroupOn, testerPresentForOn, testerPresentNeededOn, uncoveredDefunctOn};
 
@@ -139,7 +139,13 @@ pub fn tester_present_for(s: LockState, subject: u16, scope: ScopeKey) -> Needed
     }
 }
 
-pub fn uncovered_defunct(s: LockState, subject: u16, scope: ScopeKey, coverage: LockCoverage, now: u64) -> FoundDefunct
+pub fn uncovered_defunct(
+    s: LockState,
+    subject: u16,
+    scope: ScopeKey,
+    coverage: LockCoverage,
+    now: u64,
+) -> FoundDefunct
     ensures { λ r. ⌜ r ≡ uncoveredDefunctOn s subject scope coverage now ⌝ }
 {
     let v = rules::broken(s);

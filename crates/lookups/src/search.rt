@@ -1,16 +1,16 @@
 // Searches of the two lists. The first lock that fits has the lowest id, since the lists ascend.
 // SPDX-License-Identifier: Apache-2.0
-use coverage::LockCoverage;
-use ids::LockId;
-use state::ActiveLock;
-use state::DefunctLock;
-use state::ScopeKey;
 use crate::FoundActive;
 use crate::FoundDefunct;
 use crate::Listed;
 use crate::Narrow;
 use crate::Needed;
 use crate::TesterPresent;
+use coverage::LockCoverage;
+use ids::LockId;
+use state::ActiveLock;
+use state::DefunctLock;
+use state::ScopeKey;
 ghost use mathlib.Core.Path.{_≡_};
 ghost use mathlib.Core.List.{map};
 ghost use Prim.Native.Nat.{_≤_};
@@ -79,7 +79,14 @@ pub(crate) fn find_defunct(defunct: [DefunctLock; 128], n: usize, id: LockId) ->
     FoundDefunct::Nothing
 }
 
-pub(crate) fn find_uncovered(defunct: [DefunctLock; 128], n: usize, subject: u16, scope: ScopeKey, coverage: LockCoverage, now: u64) -> FoundDefunct
+pub(crate) fn find_uncovered(
+    defunct: [DefunctLock; 128],
+    n: usize,
+    subject: u16,
+    scope: ScopeKey,
+    coverage: LockCoverage,
+    now: u64,
+) -> FoundDefunct
     requires { ⌜ n ≤ 128 ⌝ }
     ensures { λ r. ⌜ r ≡ toldD (find (uncovered subject scope coverage now) (take n defunct)) ⌝ }
 {
@@ -135,7 +142,12 @@ pub(crate) fn has_group(active: [ActiveLock; 64], n: usize, subject: u16, ecu: u
 }
 
 // What a lock of the subject on the scope needs: nothing of its own where a group lock of the subject covers its ECU.
-pub(crate) fn present_for(active: [ActiveLock; 64], n: usize, subject: u16, scope: ScopeKey) -> Needed
+pub(crate) fn present_for(
+    active: [ActiveLock; 64],
+    n: usize,
+    subject: u16,
+    scope: ScopeKey,
+) -> Needed
     requires { ⌜ n ≤ 64 ⌝ }
     ensures { λ r. ⌜ r ≡ toldPresent (presentFor (take n active) subject scope) ⌝ }
 {

@@ -1,5 +1,7 @@
 // The eight operations of the lock state, each a value in and a value out.
 // SPDX-License-Identifier: Apache-2.0
 pub mod answers;
+mod checks;
+pub mod insert;
 mod table;
 mod trees;
