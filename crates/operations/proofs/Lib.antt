@@ -4,3 +4,6 @@ pub mod Leaving
 pub mod Coming
 pub mod Chains
 pub mod Inserting
+pub mod Closing
+pub mod Renewing
+pub mod Papers

@@ -9,3 +9,4 @@ pub mod Delete
 pub mod Replace
 pub mod Acknowledge
 pub mod Code
+pub mod Place

@@ -3,5 +3,6 @@
 pub mod answers;
 mod checks;
 pub mod insert;
+pub mod renew;
 mod table;
 mod trees;
