@@ -3,6 +3,8 @@ pub mod Flags
 pub mod Going
 pub mod Leaving
 pub mod Coming
+pub mod Chains
+pub mod Inserting
 pub mod Closing
 pub mod Renewing
 pub mod Papers
