@@ -9,3 +9,4 @@ pub mod Delete
 pub mod Replace
 pub mod Acknowledge
 pub mod Place
+pub mod Code
