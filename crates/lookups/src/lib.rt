@@ -8,6 +8,9 @@ use state::ScopeKey;
 ghost use mathlib.Core.Path.{_≡_};
 ghost use Rattle.lookups.specs.Reads.{onScope, narrow, groupOver, coversDefunct, uncovered};
 
+pub mod reads;
+mod search;
+
 pub enum FoundActive {
     UnsoundState(u8),
     Nothing,

@@ -1,5 +1,8 @@
 -- What other crates' proofs cite of the operations.
+pub mod Flags
 pub mod Going
+pub mod Leaving
+pub mod Coming
 pub mod Finding
 pub mod Closing
 pub mod Renewing

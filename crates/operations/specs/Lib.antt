@@ -8,5 +8,5 @@ pub mod Renew
 pub mod Delete
 pub mod Replace
 pub mod Acknowledge
-pub mod Place
 pub mod Code
+pub mod Place

@@ -3,4 +3,5 @@
 pub mod answers;
 pub mod delete;
 pub mod renew;
+mod table;
 mod trees;

@@ -1,0 +1,28 @@
+// SPDX-License-Identifier: Apache-2.0
+//! The original lock state as judge.
+//!
+//! - [`model`]: states, locks, operations and reads as plain numbers.
+//! - [`rules`]: the sound-state test, rules 0 to 9.
+//! - [`wire`]: images and feed records, read and written.
+//! - [`judge`]: what the original answers, in the numbers of document 01; feed steps; `replay`.
+//! - [`paper`]: document 01 restated on the model, to be compared with the judge.
+//! - [`generate`]: seeded random sound states, operations, reads, feeds and damage.
+//! - [`small`]: every state and operation of a tiny universe.
+//! - [`bench`]: states and operations to time.
+//! - [`original`]: the original itself behind numbers, for benchmarks.
+//!
+//! A differential run takes a state from [`generate`], hands it to [`judge::Judge`] and, as an
+//! image, to the code under test, and compares the two outcomes.
+
+pub mod answer;
+pub mod bench;
+pub mod generate;
+pub mod judge;
+pub mod model;
+pub mod paper;
+pub mod rules;
+pub mod small;
+mod sovd;
+pub mod wire;
+
+pub use sovd::bridge as original;
