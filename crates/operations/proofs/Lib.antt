@@ -1,11 +1,14 @@
 -- What other crates' proofs cite of the operations, and document 01's traps.
+-- What other crates' proofs cite of the operations.
 pub mod Flags
 pub mod Going
 pub mod Leaving
 pub mod Coming
 pub mod Chains
 pub mod Inserting
+pub mod Finding
 pub mod Closing
 pub mod Renewing
+pub mod Deleting
 pub mod Papers
 pub mod Traps

@@ -2,7 +2,6 @@
 -- Assumes nothing.
 use mathlib.Core.Bool.{Bool, true, false, cond, false≢true}
 use mathlib.Core.List.{List, [], _∷_, map, _++_}
-use mathlib.Core.Option.{Option, none, some}
 use mathlib.Core.Path.{_≡_, refl, sym, ap, _∙_}
 use Prim.Native.Nat.{ℕ, _+_, _-_, _≤_, _<_}
 use native.Mathlib.Omega.{arith}
@@ -11,10 +10,10 @@ use types.Run.{OneOf, miss}
 use denote.Enum.Declared.{tagOf}
 use borrow.Author.Tests.{eq-eqb}
 use lib.ListN.{length, getD, set, take, replicate, length-set}
-use lib.Seq.{getD-take, set-append-left}
+use lib.Seq.{set-append-left}
 use Rattle.lists.specs.Tests.{Yes}
-use Rattle.lists.specs.Lists.{find, ascending}
-use Rattle.lists.proofs.First.{find-place, find-nowhere, place-le, change-one}
+use Rattle.lists.specs.Lists.{ascending}
+use Rattle.lists.proofs.First.{change-one}
 use Rattle.ids.specs.declared.LockId.{LockId}
 use Rattle.ids.specs.Order.{key}
 use Rattle.state.specs.declared.ActiveLock.{ActiveLock}
@@ -26,6 +25,7 @@ use Rattle.rules.specs.declared.Verdict.{Verdict}
 use Rattle.rules.specs.declared.Verdict.the-variants.{Sound, Broken}
 use Rattle.rules.specs.Rules.{brokenRule}
 use Rattle.lookups.proofs.Verdicts.{on-sound}
+use Rattle.operations.proofs.Finding.{active-at, found-none, found-lock}
 use Rattle.operations.specs.declared.answers.Renewal.{Renewal}
 use Rattle.operations.specs.declared.answers.Renewal.the-variants.{Done, ActiveLockNotFound, RevisionOverflow, LockExpired, RenewalNotExtension, Invariant, UnsoundState}
 use Rattle.operations.specs.declared.answers.Renewed.{Renewed}
@@ -63,9 +63,6 @@ abbrev pub withLock : LockState → ℕ → ActiveLock → LockState
 withLock s k x = record { revision = s .revision + 1; active = set (s .active) k x; actives = s .actives; defunct = s .defunct; defuncts = s .defuncts }
 
 module _ (s : LockState) (t : Tidy s) (k : ℕ) (h : k < s .actives) where
-  pub active-at : getD (modelOf s .active) k blankActive ≡ getD (s .active) k blankActive
-  active-at = getD-take (s .actives) (s .active) k blankActive h
-
   pub with-lock : (x : ActiveLock) → withLock s k x ≡ stateOf (record { revision = s .revision + 1; active = set (modelOf s .active) k x; defunct = modelOf s .defunct })
   with-lock x = λ j. record { revision = s .revision + 1; active = places j; actives = count j; defunct = entries j; defuncts = number j }
     where
@@ -92,19 +89,16 @@ module _ (s : LockState) (i : LockId) (e now : ℕ) (has : Bool) (d : ℕ) (w : 
 
   pub absent : s .actives ≤ k → renewed (ActiveLockNotFound i) s ≡ renewOn s i e now has d
   unfolding judgeRenew
-  absent h = settled (ActiveLockNotFound i) (ap (judgeFound (modelOf s) i e now) (find-nowhere (hasId i) (modelOf s .active) (omega (arith, active-count s t, place-le (hasId i) (modelOf s .active)))))
+  absent h = settled (ActiveLockNotFound i) (ap (judgeFound (modelOf s) i e now) (found-none s t i k g h))
 
   module _ (h : k < s .actives) where
     abbrev lock : ActiveLock
     lock = getD (s .active) k blankActive
 
-    found : find (hasId i) (modelOf s .active) ≡ some lock
-    found = find-place (hasId i) (modelOf s .active) blankActive (omega (arith, active-count s t)) ∙ ap (λ (n : ℕ). some (getD (modelOf s .active) n blankActive)) (sym g) ∙ ap {B = Option ActiveLock} some (active-at s t k h)
-
     module _ (a : Renewal) (j : a ≡ judgeLock (s .revision) e now lock) where
       judged : judgeRenew (modelOf s) i e now ≡ a
       unfolding judgeRenew
-      judged = ap (judgeFound (modelOf s) i e now) found ∙ sym j
+      judged = ap (judgeFound (modelOf s) i e now) (found-lock s t i k g h) ∙ sym j
 
       -- another answer than Done
       pub refused : settledRenew a s (renewedIn (modelOf s) i e has d) ≡ renewed a s → renewed a s ≡ renewOn s i e now has d
@@ -116,7 +110,7 @@ module _ (s : LockState) (i : LockId) (e now : ℕ) (has : Bool) (d : ℕ) (w : 
         change =
             change-one akey (key i) (extended e has d) 0 (modelOf s .active) blankActive o (omega (arith, active-count s t))
             ∙ ap (λ (n : ℕ). set (modelOf s .active) n (extended e has d (getD (modelOf s .active) n blankActive))) (sym g)
-            ∙ ap (λ (z : ActiveLock). set (modelOf s .active) k (extended e has d z)) (active-at s t k h)
+            ∙ ap (λ (z : ActiveLock). set (modelOf s .active) k (extended e has d z)) (active-at s k h)
             ∙ ap (set (modelOf s .active) k) (sym y)
 
         made : withLock s k x ≡ stateOf (renewedIn (modelOf s) i e has d)

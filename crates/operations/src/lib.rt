@@ -3,6 +3,7 @@
 pub mod answers;
 mod checks;
 pub mod insert;
+pub mod delete;
 pub mod renew;
 mod table;
 mod trees;

@@ -1,0 +1,115 @@
+-- What `deleteOn` and `beginExpirationOn` are in each case of their tests.
+-- Assumes nothing.
+use mathlib.Core.Bool.{Bool, true, false, cond}
+use mathlib.Core.List.{List, []}
+use mathlib.Core.Option.{Option, none, some}
+use mathlib.Core.Path.{_≡_, refl, sym, ap, _∙_}
+use Prim.Native.Nat.{ℕ, _+_}
+use lib.Dec.{eqb, ltb}
+use lib.ListN.{length}
+use Rattle.lists.specs.Lists.{find}
+use Rattle.ids.specs.declared.LockId.{LockId}
+use Rattle.state.specs.declared.ActiveLock.{ActiveLock}
+use Rattle.state.specs.declared.LockState.{LockState}
+use Rattle.state.specs.Locks.{hasId}
+use Rattle.state.specs.Model.{Model, modelOf, stateOf, Tidy}
+use Rattle.state.proofs.Laws.{active-in, defunct-count, defunct-in}
+use Rattle.rules.specs.declared.Verdict.{Verdict}
+use Rattle.rules.specs.declared.Verdict.the-variants.{Sound, Broken}
+use Rattle.rules.specs.Rules.{brokenRule, isSound}
+use Rattle.lookups.specs.Reads.{onSound}
+use Rattle.lookups.proofs.Verdicts.{on-sound}
+use Rattle.operations.specs.declared.answers.Deletion.{Deletion}
+use Rattle.operations.specs.declared.answers.Deletion.the-variants as deletion
+use Rattle.operations.specs.declared.answers.Expiration.{Expiration}
+use Rattle.operations.specs.declared.answers.Expiration.the-variants as expiration
+use Rattle.operations.specs.declared.answers.Deleted.{Deleted}
+use Rattle.operations.specs.declared.answers.Expired.{Expired}
+use Rattle.operations.specs.declared.trees.Split.{Split}
+use Rattle.operations.specs.Trees.{Parts, startParts, treeParts}
+use Rattle.operations.specs.Checks.{atLast}
+use Rattle.operations.specs.Code.{Placed, splitOf}
+use Rattle.operations.specs.Place.{asExpired}
+use Rattle.operations.specs.Delete.{treeOut, withoutTree, deleted, closedDelete, deleteFound, deleteOn, expired, closedExpire, expireFound, beginExpirationOn}
+use Rattle.operations.proofs.Closing.{closed-sound, closed-broken}
+
+-- ---- the tree of r out
+module _ (s : LockState) (t : Tidy s) where
+  pub placed : Placed (s .active) (s .actives)
+  placed = record { room = t .active; same = active-in s t }
+
+  module _ (i : LockId) (r : ActiveLock) where
+    pub at-end : eqb (s .revision) 18446744073709551615 ≡ true → deleted deletion.RevisionOverflow [] s ≡ deleteFound s i (some r)
+    unfolding deleteFound atLast
+    at-end e = rw e
+
+    module _ (e : eqb (s .revision) 18446744073709551615 ≡ false) (x : Split) (f : x ≡ splitOf (treeParts r (startParts (modelOf s .active)))) where
+      abbrev next : LockState
+      next = record { revision = s .revision + 1; active = x .kept; actives = x .left; defunct = s .defunct; defuncts = s .defuncts }
+
+      made : next ≡ stateOf (withoutTree (modelOf s) r)
+      unfolding withoutTree
+      made = λ j. record { revision = s .revision + 1; active = f j .kept; actives = f j .left; defunct = entries j; defuncts = number j }
+        where
+          entries : s .defunct ≡ stateOf (modelOf s) .defunct
+          entries = sym (defunct-in s t)
+
+          number : s .defuncts ≡ length (modelOf s .defunct)
+          number = sym (defunct-count s t)
+
+      closing : closedDelete s (treeOut (modelOf s) r .gone) next ≡ deleteFound s i (some r)
+      unfolding deleteFound atLast
+      closing = rw (made, e)
+
+      pub done : (v : Verdict) → v ≡ brokenRule next → v ≡ Sound → record { told = record { answer = deletion.Done; gone = x .gone; removed = x .removed }; state = next } ≡ deleteFound s i (some r)
+      unfolding closedDelete
+      done v q w = ap (λ (y : Split). record { told = record { answer = deletion.Done; gone = y .gone; removed = y .removed }; state = next }) f ∙ sym (closed-sound next _ _ v q w) ∙ closing
+
+      pub undone : (v : Verdict) → v ≡ brokenRule next → (n : ℕ) → v ≡ Broken n → deleted deletion.Invariant [] s ≡ deleteFound s i (some r)
+      unfolding closedDelete
+      undone v q n w = sym (closed-broken next _ _ v q n w) ∙ closing
+
+-- ---- by what was found of the id i
+module _ (s : LockState) (i : LockId) (w : brokenRule s ≡ Sound) where
+  pub deletion-of : (o : Option ActiveLock) → find (hasId i) (modelOf s .active) ≡ o → deleteFound s i o ≡ deleteOn s i
+  unfolding deleteOn
+  deletion-of o f = rw (← f) (on-sound s _ _ (brokenRule s) refl w)
+
+  pub expiration-of : (now : ℕ) (o : Option ActiveLock) → find (hasId i) (modelOf s .active) ≡ o → expireFound s now o ≡ beginExpirationOn s i now
+  unfolding beginExpirationOn
+  expiration-of now o f = rw (← f) (on-sound s _ _ (brokenRule s) refl w)
+
+module _ (s : LockState) (i : LockId) where
+  pub not-there : deleted (deletion.ActiveLockNotFound i) [] s ≡ deleteFound s i none
+  unfolding deleteFound
+  not-there = refl
+
+  pub there : (r : ActiveLock) → deleteFound s (r .lock .id) (some r) ≡ deleteFound s i (some r)
+  unfolding deleteFound
+  there r = refl
+
+module _ (s : LockState) (now : ℕ) where
+  pub stale : expired expiration.Stale [] s ≡ expireFound s now none
+  unfolding expireFound
+  stale = refl
+
+  module _ (r : ActiveLock) where
+    pub not-due : ltb now (r .expires) ≡ true → expired (expiration.NotDue (r .expires)) [] s ≡ expireFound s now (some r)
+    unfolding expireFound
+    not-due e = rw e
+
+    -- "else as delete"
+    pub due : (i : LockId) → ltb now (r .expires) ≡ false → asExpired (deleteFound s i (some r)) ≡ expireFound s now (some r)
+    unfolding expireFound deleteFound closedDelete closedExpire
+    due i e = rw e (go (atLast (s .revision)) (isSound (brokenRule n)))
+      where
+        g : List ActiveLock
+        g = treeOut (modelOf s) r .gone
+
+        n : LockState
+        n = stateOf (withoutTree (modelOf s) r)
+
+        go : (a b : Bool) → asExpired (cond a (deleted deletion.RevisionOverflow [] s) (cond b (deleted deletion.Done g n) (deleted deletion.Invariant [] s))) ≡ cond a (expired expiration.RevisionOverflow [] s) (cond b (expired expiration.Done g n) (expired expiration.Invariant [] s))
+        go true b = refl
+        go false true = refl
+        go false false = refl
