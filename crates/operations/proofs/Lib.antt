@@ -1,5 +1,5 @@
 -- What other crates' proofs cite of the operations, and document 01's traps.
--- What other crates' proofs cite of the operations.
+
 pub mod Flags
 pub mod Going
 pub mod Leaving

@@ -2,8 +2,8 @@
 // SPDX-License-Identifier: Apache-2.0
 pub mod answers;
 mod checks;
-pub mod insert;
 pub mod delete;
+pub mod insert;
 pub mod renew;
 mod table;
 mod trees;
