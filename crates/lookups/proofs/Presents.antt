@@ -1,25 +1,24 @@
 -- The tester present that a lock needs, by the lock's scope; and the one lock that may need a given one, since there is
 -- one active lock a scope (rule 2).
 -- Assumes nothing.
-use mathlib.Core.Path.{_≡_, refl, sym, ap, _∙_, subst}
+use mathlib.Core.Path.{_≡_, refl, sym, _∙_, subst}
 use mathlib.Core.Bool.{Bool, true, false, cond}
-use mathlib.Core.List.{List, [], _∷_}
-use mathlib.Core.Option.{Option, none, some}
-use mathlib.Core.Logic.{_⊎_, inl, inr}
+use mathlib.Core.List.{List}
+use mathlib.Core.Option.{none, some}
 use Prim.Native.Nat.{ℕ, _+_, _*_}
 use native.Mathlib.Omega.{arith}
 use native.Mathlib.Decide.{ℕ-discrete}
 use lib.Dec.{eqb}
 use borrow.Author.Tests.{eq-eqb, ne-eqb, eqb-true}
-use Rattle.lists.specs.Tests.{_and_, _imp_, non, Yes, No}
-use Rattle.lists.specs.Lists.{any, all, find, Mem}
+use Rattle.lists.specs.Tests.{_and_, non, Yes}
+use Rattle.lists.specs.Lists.{any, find, Mem}
 use Rattle.lists.proofs.Tests.{and-l, and-r, and-i, and-f, and-comm, imp-e, →no, same-test}
 use Rattle.lists.proofs.Lists.{all→, any→, →any, find→, find-none→, from-unique}
 use Rattle.state.specs.declared.ScopeKey.{ScopeKey}
 use Rattle.state.specs.declared.ScopeKey.the-variants.{Vehicle, Ecu, FunctionalGroup}
 use Rattle.state.specs.declared.ActiveLock.{ActiveLock}
 use Rattle.state.specs.Locks.{akey, scopeCode, sameScope}
-use Rattle.state.specs.Model.{Model, Limits}
+use Rattle.state.specs.Model.{Model}
 use Rattle.state.proofs.Laws.{same-scope-one, same-scope-refl}
 use Rattle.rules.specs.Rules.{rule2, inOrder}
 use Rattle.lookups.specs.declared.TesterPresent.{TesterPresent}

@@ -1,7 +1,7 @@
 -- Every function that takes a state tests it first and matches the verdict: a broken rule gives the answer of an unsound
 -- state, a sound state the rest. Said once, for every answer.
 -- Assumes nothing.
-use mathlib.Core.Path.{_≡_, refl, sym, _∙_}
+use mathlib.Core.Path.{_≡_}
 use mathlib.Core.Bool.{true}
 use Prim.Native.Nat.{ℕ, _≤_}
 use borrow.Author.Tests.{leb-true}
@@ -14,7 +14,7 @@ use Rattle.rules.specs.declared.Verdict.{Verdict}
 use Rattle.rules.specs.declared.Verdict.the-variants.{Sound, Broken}
 use Rattle.rules.specs.Rules.{brokenRule, rule0, inOrder}
 use Rattle.rules.proofs.Sound.{rule0-of, facts-of-state}
-use Rattle.lookups.specs.Reads.{byVerdict, onSound}
+use Rattle.lookups.specs.Reads.{onSound}
 
 module _ {A : Type 0} (s : LockState) (u : ℕ → A) (a : A) (v : Verdict) where
   -- v is what the test answered, and then the arm that was taken

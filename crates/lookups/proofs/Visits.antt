@@ -1,11 +1,11 @@
 -- The holder's walk as the code does it: from place to place, with a record of the places visited. On a sound state each
 -- entry visited has more entries ahead of it than the id now looked at (rule 9), so that the record never stops the walk.
 -- Assumes nothing.
-use mathlib.Core.Path.{_≡_, refl, sym, ap, _∙_, subst}
+use mathlib.Core.Path.{_≡_, sym, ap, _∙_}
 use mathlib.Core.Bool.{Bool, true, false, false≢true}
 use mathlib.Core.List.{List}
 use mathlib.Core.Option.{Option, none, some}
-use mathlib.Core.Logic.{_⊎_, inl, inr}
+use mathlib.Core.Logic.{inl, inr}
 use Prim.Native.Nat.{ℕ, suc, _+_, _≤_, _<_}
 use native.Mathlib.Numerals.{add-one}
 use native.Mathlib.Decide.{ℕ-discrete}
@@ -13,9 +13,9 @@ use native.Mathlib.Omega.{arith}
 use borrow.Author.Tests.{eqb-true}
 use lib.Dec.{eqb}
 use lib.ListN.{length, getD, set, take, replicate, length-set, length-replicate, getD-replicate}
-use lib.Seq.{getD-take, getD-set-same, getD-set-other, length-take-le}
+use lib.Seq.{getD-take, getD-set-other, length-take-le}
 use Rattle.lists.specs.Tests.{Yes}
-use Rattle.lists.specs.Lists.{find, Mem, ascending}
+use Rattle.lists.specs.Lists.{find, ascending}
 use Rattle.lists.proofs.Lists.{find→, find-key, find-miss}
 use Rattle.lists.proofs.Places.{mem-at, at-mem}
 use Rattle.ids.specs.declared.LockId.{LockId}
@@ -24,14 +24,14 @@ use Rattle.state.specs.declared.ActiveLock.{ActiveLock}
 use Rattle.state.specs.declared.DefunctLock.{DefunctLock}
 use Rattle.state.specs.declared.LockState.{LockState}
 use Rattle.state.specs.Locks.{dkey, blankDefunct}
-use Rattle.state.specs.Model.{Model, modelOf}
+use Rattle.state.specs.Model.{modelOf}
 use Rattle.rules.specs.declared.Verdict.the-variants.{Sound}
 use Rattle.rules.specs.Rules.{findA, findD, brokenRule}
 use Rattle.rules.specs.Places.{keyAt, Sought}
 use Rattle.rules.proofs.Rings.{table-key}
 use Rattle.rules.proofs.Ends.{Ends, ends-anywhere}
 use Rattle.rules.proofs.Sound.{facts-of-state}
-use Rattle.lookups.specs.Reads.{Held, held, walk}
+use Rattle.lookups.specs.Reads.{held, walk}
 use Rattle.lookups.specs.Code.{Columns}
 use Rattle.lookups.proofs.Verdicts.{defuncts-fit}
 use Rattle.lookups.proofs.Walk.{walk-held, walk-out, walk-on, ahead, ahead-le, ahead-on, enough}

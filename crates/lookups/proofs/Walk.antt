@@ -3,8 +3,8 @@
 --     ahead t k     how many entries the walk from the id k passes
 -- Assumes nothing.
 use mathlib.Core.Path.{_≡_, refl, sym, ap, _∙_}
-use mathlib.Core.Bool.{Bool, true, false}
-use mathlib.Core.List.{List, [], _∷_}
+use mathlib.Core.Bool.{true}
+use mathlib.Core.List.{List}
 use mathlib.Core.Option.{Option, none, some, Option·none-ne-some, Option·some-injective}
 use Prim.Native.Nat.{ℕ, zero, suc, _+_, _≤_, _<_, zero-le, suc-le-suc}
 use native.Mathlib.Omega.{arith}
@@ -24,7 +24,7 @@ use Rattle.rules.specs.declared.Verdict.the-variants.{Sound}
 use Rattle.rules.specs.Rules.{findA, findD, rule9, brokenRule}
 use Rattle.rules.proofs.Sound.{facts-of-state}
 use Rattle.rules.proofs.Ends.{Ends, done, step, leaves, leaves-all, ends-anywhere}
-use Rattle.lookups.specs.Reads.{Held, held, walk, holderOf}
+use Rattle.lookups.specs.Reads.{held, walk, holderOf}
 use Rattle.lookups.proofs.Verdicts.{defuncts-fit}
 
 -- ---- one step

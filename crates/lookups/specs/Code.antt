@@ -9,7 +9,6 @@ use Rattle.lists.specs.Lists.{any, Mem}
 use Rattle.state.specs.declared.ScopeKey.{ScopeKey}
 use Rattle.state.specs.declared.ScopeKey.the-variants.{Ecu, FunctionalGroup}
 use Rattle.ids.specs.declared.LockId.{LockId}
-use Rattle.ids.specs.Order.{noId}
 use Rattle.state.specs.declared.ActiveLock.{ActiveLock}
 use Rattle.state.specs.declared.DefunctLock.{DefunctLock}
 use Rattle.lookups.specs.declared.TesterPresent.{TesterPresent}

@@ -1,14 +1,11 @@
-use mathlib.Core.Path.{_≡_, sym, ap, _∙_}
-use mathlib.Core.Bool.{true}
+use mathlib.Core.Path.{_≡_, ap}
 use mathlib.Core.Option.{none, some}
-use Prim.Native.Nat.{ℕ, _≤_, _<_}
+use Prim.Native.Nat.{_≤_, _<_}
 use native.Mathlib.Omega.{arith}
 use borrow.Author.Needs.{needs}
 use lib.ListN.{length, getD}
 use Rattle.lists.proofs.Loops.{length-of-mapped}
-use Rattle.ids.specs.declared.LockId.{LockId}
 use Rattle.ids.specs.Order.{key}
-use Rattle.state.specs.declared.LockState.{LockState}
 use Rattle.state.specs.Locks.{blankActive, blankDefunct}
 use Rattle.state.specs.Model.{modelOf}
 use Rattle.rules.specs.Rules.{findA, findD}

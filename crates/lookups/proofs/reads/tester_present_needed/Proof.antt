@@ -1,6 +1,4 @@
-use mathlib.Core.Path.{_≡_, sym, ap, _∙_}
-use Rattle.rules.specs.declared.Verdict.the-variants.{Sound}
-use Rattle.rules.specs.Rules.{brokenRule}
+use mathlib.Core.Path.{sym, ap, _∙_}
 use Rattle.rules.proofs.Sound.{facts-of-state}
 use Rattle.lookups.specs.declared.Truth.the-variants.{Is}
 use Rattle.lookups.specs.Reads.{testerPresentNeededOn}
