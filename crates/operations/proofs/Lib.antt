@@ -7,4 +7,5 @@ pub mod Finding
 pub mod Closing
 pub mod Renewing
 pub mod Deleting
+pub mod Shedding
 pub mod Papers

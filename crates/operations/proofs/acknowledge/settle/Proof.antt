@@ -1,0 +1,34 @@
+use borrow.Author.Needs.{needs}
+use Rattle.operations.proofs.acknowledge.settle.Statement.{statement}
+use Rattle.operations.proofs.acknowledge.settle.Tie as tie
+use Rattle.operations.proofs.acknowledge.settle.Reads as reads
+use Rattle.operations.proofs.acknowledge.settle.Lts as lts
+use Rattle.rules.proofs.broken.Reads as broken-reads
+
+-- src/acknowledge.rt:62:9
+returns : tie.Need-returns
+returns c = ?
+
+-- src/acknowledge.rt:67:9
+broken-requires : tie.Need-broken-requires
+broken-requires c κs = search needs
+
+-- src/acknowledge.rt:70:19
+enum-told : tie.Need-enum-told
+enum-told c = search needs
+
+-- src/acknowledge.rt:74:19
+enum-told-2 : tie.Need-enum-told-2
+enum-told-2 c = search needs
+
+-- src/acknowledge.rt:58:1
+returns-2 : tie.Need-returns-2
+returns-2 c = ?
+
+-- src/acknowledge.rt:58:1
+returns-3 : tie.Need-returns-3
+returns-3 c = ?
+
+pub settle-spec : {M : Type 1} → statement M
+settle-spec =
+    tie.close (tie.spec returns broken-requires enum-told enum-told-2 returns-2 returns-3)
