@@ -1,18 +1,19 @@
 -- Marks beside a list: what they pick is what a test picks, one mark more, and a list that a loop changes place by place.
 -- Assumes nothing.
-use mathlib.Core.Bool.{Bool, true, false, cond, _||_}
+use mathlib.Core.Bool.{Bool, true, false, cond, _&&_, _||_, true≢false, false≢true}
 use mathlib.Core.List.{List, [], _∷_, _++_, map, append-assoc, List·Memᴰ·head, List·Memᴰ·tail}
+use mathlib.Core.Option.{none, some}
 use mathlib.Core.Path.{_≡_, refl, sym, ap, subst, _∙_}
 use Prim.Native.Nat.{ℕ, zero, suc, _+_, _≤_, _<_}
 use native.Mathlib.Numerals.{add-one}
 use native.Mathlib.Omega.{arith}
 use lib.ListN.{length, getD, set, take, drop, length-append, length-take, length-drop, length-map}
 use native.Mathlib.Decide.{ℕ-discrete}
-use lib.Seq.{drop-cons, set-at, getD-at, take-at, length-take-le, getD-set-same, getD-set-other}
+use lib.Seq.{slice, slice-empty, drop-cons, set-at, getD-at, take-at, length-take-le, getD-set-same, getD-set-other}
 use Rattle.lists.specs.Tests.{_or_, Yes}
-use Rattle.lists.specs.Lists.{any, filter, Mem}
+use Rattle.lists.specs.Lists.{any, filter, find, Mem}
 use Rattle.lists.proofs.Tests.{or-code, or-comm, or-assoc}
-use Rattle.lists.proofs.Loops.{more, map-more}
+use Rattle.lists.proofs.Loops.{rest-step, more, map-more}
 use Rattle.operations.specs.Code.{flagged, unflagged}
 
 -- one mark more is set
@@ -75,6 +76,27 @@ module _ {A : Type 0} where
 
     pub sift-in : getD goes i false ≡ false → unflagged (take (i + 1) goes) (take (i + 1) l) ≡ unflagged (take i goes) (take i l) ++ (getD l i d ∷ [])
     sift-in e = rw (more goes i false h, more l i d k, e) (last-in (take i goes) (take i l) (getD l i d) even)
+
+  -- ---- a search among what is marked
+  module _ (q : A → Bool) (fs : List Bool) (l : List A) (n i : ℕ) (d : A) (h : i < n) (a : n ≤ length fs) (b : n ≤ length l) (m : Bool) (e : m ≡ q (getD l i d)) where
+    pub marked-yes : (getD fs i false && m) ≡ true → find q (flagged (slice i n fs) (slice i n l)) ≡ some (getD l i d)
+    marked-yes t = rw (rest-step fs n i false h a, rest-step l n i d h b) (go (getD fs i false) m e t)
+      where
+        go : (c m : Bool) → m ≡ q (getD l i d) → (c && m) ≡ true → find q (cond c (getD l i d ∷ flagged (slice (i + 1) n fs) (slice (i + 1) n l)) (flagged (slice (i + 1) n fs) (slice (i + 1) n l))) ≡ some (getD l i d)
+        go true true e t = rw (← e)
+        go true false e t = absurd (false≢true t)
+        go false m e t = absurd (false≢true t)
+
+    pub marked-no : (getD fs i false && m) ≡ false → find q (flagged (slice i n fs) (slice i n l)) ≡ find q (flagged (slice (i + 1) n fs) (slice (i + 1) n l))
+    marked-no t = rw (rest-step fs n i false h a, rest-step l n i d h b) (go (getD fs i false) m e t)
+      where
+        go : (c m : Bool) → m ≡ q (getD l i d) → (c && m) ≡ false → find q (cond c (getD l i d ∷ flagged (slice (i + 1) n fs) (slice (i + 1) n l)) (flagged (slice (i + 1) n fs) (slice (i + 1) n l))) ≡ find q (flagged (slice (i + 1) n fs) (slice (i + 1) n l))
+        go true true e t = absurd (true≢false t)
+        go true false e t = rw (← e)
+        go false m e t = refl
+
+  pub marked-end : (q : A → Bool) (fs : List Bool) (l : List A) (n i : ℕ) → i ≤ n → n ≤ i → find q (flagged (slice i n fs) (slice i n l)) ≡ none
+  marked-end q fs l n i h k = let e : i ≡ n = omega arith in rw (e, slice-empty n fs)
 
   -- ---- marks that a test gives
   pub flagged-by : (p : A → Bool) (goes : List Bool) (l : List A) (d : A) → length l ≤ length goes → ((j : ℕ) → j < length l → getD goes j false ≡ p (getD l j d)) → flagged goes l ≡ filter p l

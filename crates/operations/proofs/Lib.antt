@@ -4,6 +4,8 @@ pub mod Going
 pub mod Leaving
 pub mod Coming
 pub mod Finding
+pub mod Chains
+pub mod Inserting
 pub mod Closing
 pub mod Renewing
 pub mod Deleting

@@ -1,19 +1,25 @@
 -- Helpers of the code alone: the lists in their places, as the code passes them from function to function.
 use mathlib.Core.Bool.{Bool, true, false, cond}
 use mathlib.Core.List.{List, [], _∷_, map}
+use mathlib.Core.Option.{Option, none, some}
 use mathlib.Core.Path.{_≡_}
 use Prim.Native.Nat.{ℕ, zero, suc, _+_, _≤_}
-use lib.Dec.{ltb}
+use lib.Dec.{eqb, ltb}
 use lib.ListN.{length, getD, take}
-use Rattle.lists.specs.Tests.{non, Yes}
+use Rattle.lists.specs.Tests.{_or_, non, Yes}
 use Rattle.lists.specs.Lists.{ascending}
 use Rattle.lists.specs.Places.{inPlaces, leading, opened}
 use Rattle.ids.specs.declared.LockId.{LockId}
 use Rattle.ids.specs.Order.{key}
+use Rattle.coverage.specs.Coverage.{within}
 use Rattle.state.specs.declared.ActiveLock.{ActiveLock}
 use Rattle.state.specs.declared.DefunctLock.{DefunctLock}
+use Rattle.state.specs.declared.LockState.{LockState}
 use Rattle.state.specs.Locks.{hasId, dkey, blankActive, blankDefunct}
+use Rattle.state.specs.Model.{modelOf, Tidy}
 use Rattle.lookups.specs.Reads.{narrow}
+use Rattle.operations.specs.declared.checks.Seen.{Seen}
+use Rattle.operations.specs.declared.checks.Seen.the-variants.{Nothing, Lock}
 use Rattle.operations.specs.declared.trees.Split.{Split}
 use Rattle.operations.specs.declared.table.Table.{Table}
 use Rattle.operations.specs.Trees.{childOf, Parts}
@@ -39,6 +45,11 @@ module _ {A : Type 0} where
 pub record Placed (l : List ActiveLock) (n : ℕ) : Type 0 where
   pub room : n ≤ 64
   pub same : inPlaces 64 blankActive (take n l) ≡ l
+
+-- what a change needs of the state that was tested
+pub record Ready (s : LockState) : Type 0 where
+  pub tidy : Tidy s
+  pub order : Yes (ascending dkey (modelOf s .defunct))
 
 -- ---- trees
 -- the three steps of a tree's removal by their numbers
@@ -89,3 +100,12 @@ handOn goes (suc i) l = handStep (getD goes i false) i (handOn goes i l)
 
 abbrev pub putAt : Table → ℕ → DefunctLock → Table
 putAt t k d = record { count = t .count + 1; entries = opened (t .entries) k (t .count) d }
+
+-- ---- checks
+abbrev pub seen : Option ActiveLock → Seen
+seen none = Nothing
+seen (some a) = Lock a
+
+-- a lock that the vehicle lock x can't take in
+unfoldable pub misfit : ActiveLock → ActiveLock → Bool
+misfit x a = non (eqb (x .lock .subject) (a .lock .subject)) or non (within (a .lock .coverage) (x .lock .coverage))

@@ -3,6 +3,8 @@
 pub mod acknowledge;
 pub mod answers;
 pub mod delete;
+mod checks;
+pub mod insert;
 pub mod renew;
 mod table;
 mod trees;

@@ -1,0 +1,166 @@
+-- What a check answers, from what the functions that it calls answer; chains of checks, link by link.
+-- Assumes nothing.
+use mathlib.Core.Path.{_≡_, refl, sym, ap, _∙_}
+use mathlib.Core.Bool.{Bool, true, false, not, cond, _&&_, _||_, true≢false}
+use mathlib.Core.List.{List, [], _∷_}
+use mathlib.Core.Option.{Option, none, some}
+use Prim.Native.Nat.{ℕ}
+use native.Mathlib.Omega.{arith}
+use lib.Dec.{eqb}
+use borrow.Author.Tests.{not-true, not-false, eq-eqb, ne-eqb}
+use Rattle.lists.specs.Tests.{_and_, _or_, non}
+use Rattle.lists.specs.Lists.{any, find, filter}
+use Rattle.lists.proofs.Tests.{by, cond-true, cond-false, non-t, non-f, or-code, codes}
+use Rattle.coverage.specs.Coverage.{overlap, within}
+use Rattle.state.specs.declared.ActiveLock.{ActiveLock}
+use Rattle.state.specs.declared.DefunctLock.{DefunctLock}
+use Rattle.state.specs.Locks.{isVehicle, hasId, hasIdD}
+use Rattle.lookups.specs.Reads.{onScope}
+use Rattle.operations.specs.declared.answers.Answer.{Answer}
+use Rattle.operations.specs.declared.answers.Answer.the-variants.{Done, DuplicateId, DuplicateScope, ParentNotFound, ParentNotVehicle, CoverageConflict, RevisionOverflow, OtherOwner, NotCovered}
+use Rattle.operations.specs.declared.checks.Seen.{Seen}
+use Rattle.operations.specs.declared.checks.Seen.the-variants.{Nothing, Lock}
+use Rattle.operations.specs.Answers.{isDone, refuseIf, andThen}
+use Rattle.operations.specs.Checks.{checkId, checkScope, checkParent, checkFound, checkNesting, conflicts, checkConflict, checkClear, checkRevision, atLast, lastRevision, toldChild}
+use Rattle.operations.specs.Code.{seen, misfit}
+
+-- ---- the combinators
+module _ {A : Type 0} (c : Bool) (a b : A) where
+  pub refuse : c ≡ true → refuseIf c a b ≡ a
+  unfolding refuseIf
+  refuse e = rw e
+
+  pub go-on : c ≡ false → refuseIf c a b ≡ b
+  unfolding refuseIf
+  go-on e = rw e
+
+-- a link: a is what the check c answered, and d whether it is done
+module _ (a c b : Answer) (e : a ≡ c) (d : Bool) (f : d ≡ isDone a) where
+  pub stop : not d ≡ true → a ≡ andThen c b
+  unfolding andThen
+  stop t = let g : isDone c ≡ false = ap isDone (sym e) ∙ sym f ∙ not-true d t in e ∙ rw g
+
+  pub pass : not d ≡ false → b ≡ andThen c b
+  unfolding andThen
+  pass t = let g : isDone c ≡ true = ap isDone (sym e) ∙ sym f ∙ not-false d t in rw g
+
+-- where the chain is done, so is each link
+module _ (a b : Answer) (t : isDone (andThen a b) ≡ true) where
+  pub first-done : isDone a ≡ true
+  unfolding andThen
+  first-done = by (isDone a) (isDone a ≡ true) (λ u. u) (λ u. sym (ap isDone (cond-false (isDone a) b a u)) ∙ t)
+
+  pub rest-done : isDone b ≡ true
+  unfolding andThen
+  rest-done = sym (ap isDone (cond-true (isDone a) b a first-done)) ∙ t
+
+-- ---- 1, 2, 8
+module _ (l : List ActiveLock) (t : List DefunctLock) (x : ActiveLock) (p q : Bool) (e : p ≡ any (hasId (x .lock .id)) l) (f : q ≡ any (hasIdD (x .lock .id)) t) where
+  both : (p || q) ≡ (any (hasId (x .lock .id)) l or any (hasIdD (x .lock .id)) t)
+  both = rw (e, f) (or-code (any (hasId (x .lock .id)) l) (any (hasIdD (x .lock .id)) t))
+
+  pub id-yes : (p || q) ≡ true → DuplicateId (x .lock .id) ≡ checkId l t x
+  unfolding checkId
+  id-yes y = sym (refuse _ _ _ (sym both ∙ y))
+
+  pub id-no : (p || q) ≡ false → Done ≡ checkId l t x
+  unfolding checkId
+  id-no y = sym (go-on _ _ _ (sym both ∙ y))
+
+module _ (l : List ActiveLock) (x : ActiveLock) (p : Bool) (e : p ≡ any (onScope (x .lock .scope)) l) where
+  pub scope-yes : p ≡ true → DuplicateScope ≡ checkScope l x
+  unfolding checkScope
+  scope-yes t = sym (refuse _ _ _ (sym e ∙ t))
+
+  pub scope-no : p ≡ false → Done ≡ checkScope l x
+  unfolding checkScope
+  scope-no t = sym (go-on _ _ _ (sym e ∙ t))
+
+module _ (r : ℕ) where
+  pub revision-yes : r ≡ lastRevision → RevisionOverflow ≡ checkRevision r
+  unfolding checkRevision atLast
+  revision-yes e = sym (refuse _ _ _ (eq-eqb r lastRevision e))
+
+  pub revision-no : (r ≡ lastRevision → ⊥) → Done ≡ checkRevision r
+  unfolding checkRevision atLast
+  revision-no e = sym (go-on _ _ _ (ne-eqb r lastRevision e))
+
+  -- where 8 is passed, the revision can rise
+  pub revision-left : isDone (checkRevision r) ≡ true → r ≡ lastRevision → ⊥
+  unfolding isDone
+  revision-left t e = true≢false (sym t ∙ ap isDone (sym (revision-yes e)))
+
+-- ---- 7
+pub conflicts-is : (x a : ActiveLock) (o v : Bool) → o ≡ overlap (a .lock .coverage) (x .lock .coverage) → v ≡ isVehicle (x .lock .scope) → (o && not (eqb (a .lock .subject) (x .lock .subject)) && not v) ≡ conflicts x a
+unfolding conflicts
+conflicts-is x a o v e f = rw (e, f) (simp codes)
+
+-- ---- the parent
+module _ (x p : ActiveLock) (v : Bool) (e : v ≡ isVehicle (p .lock .scope)) where
+  pub parent-1 : not v ≡ true → ParentNotVehicle (x .parent) ≡ checkParent x p
+  unfolding checkParent
+  parent-1 t = sym (refuse _ _ _ (non-f _ (sym e ∙ not-true v t)))
+
+  module _ (f : not v ≡ false) where
+    parent-a : checkParent x p ≡ refuseIf (non (eqb (p .lock .subject) (x .lock .subject))) (OtherOwner (x .lock .id) (x .parent)) (refuseIf (non (within (x .lock .coverage) (p .lock .coverage))) (NotCovered (x .lock .id) (x .parent)) Done)
+    unfolding checkParent
+    parent-a = go-on _ _ _ (non-t _ (sym e ∙ not-false v f))
+
+    pub parent-2 : (p .lock .subject ≡ x .lock .subject → ⊥) → OtherOwner (x .lock .id) (x .parent) ≡ checkParent x p
+    parent-2 n = sym (parent-a ∙ refuse _ _ _ (non-f _ (ne-eqb _ _ n)))
+
+    module _ (s : p .lock .subject ≡ x .lock .subject) (w : Bool) (g : w ≡ within (x .lock .coverage) (p .lock .coverage)) where
+      parent-b : checkParent x p ≡ refuseIf (non (within (x .lock .coverage) (p .lock .coverage))) (NotCovered (x .lock .id) (x .parent)) Done
+      parent-b = parent-a ∙ go-on _ _ _ (non-t _ (eq-eqb _ _ s))
+
+      pub parent-3 : not w ≡ true → NotCovered (x .lock .id) (x .parent) ≡ checkParent x p
+      parent-3 t = sym (parent-b ∙ refuse _ _ _ (non-f _ (sym g ∙ not-true w t)))
+
+      pub parent-4 : not w ≡ false → Done ≡ checkParent x p
+      parent-4 t = sym (parent-b ∙ go-on _ _ _ (non-t _ (sym g ∙ not-false w t)))
+
+-- ---- what a search saw
+pub saw-lock : (o : Option ActiveLock) (f : Seen) (a : ActiveLock) → f ≡ seen o → f ≡ Lock a → o ≡ some a
+saw-lock none f a e q = let z : _≡_ {A = ℕ} 0 1 = cc in absurd (omega arith)
+saw-lock (some d) f a e q = let z : d ≡ a = cc in ap {B = Option ActiveLock} some z
+
+pub saw-none : (o : Option ActiveLock) (f : Seen) → f ≡ seen o → f ≡ Nothing → o ≡ none
+saw-none none f e q = refl
+saw-none (some d) f e q = let z : _≡_ {A = ℕ} 0 1 = cc in absurd (omega arith)
+
+module _ (l : List ActiveLock) (x : ActiveLock) where
+  pub nesting-none : not (x .child) ≡ true → Done ≡ checkNesting l x
+  unfolding checkNesting
+  nesting-none t = let e : x .child ≡ false = not-true (x .child) t in rw e
+
+  nesting : not (x .child) ≡ false → checkNesting l x ≡ checkFound x (find (hasId (x .parent)) l)
+  unfolding checkNesting
+  nesting t = let e : x .child ≡ true = not-false (x .child) t in rw e
+
+  module _ (t : not (x .child) ≡ false) (f : Seen) (q : f ≡ seen (find (hasId (x .parent)) l)) where
+    pub nesting-hit : (a : ActiveLock) (r : Answer) → f ≡ Lock a → r ≡ checkParent x a → r ≡ checkNesting l x
+    nesting-hit a r h k = k ∙ sym (nesting t ∙ ap (checkFound x) (saw-lock (find (hasId (x .parent)) l) f a q h))
+
+    pub nesting-miss : f ≡ Nothing → ParentNotFound (x .parent) ≡ checkNesting l x
+    nesting-miss h = sym (nesting t ∙ ap (checkFound x) (saw-none (find (hasId (x .parent)) l) f q h))
+
+  module _ (f : Seen) (q : f ≡ seen (find (conflicts x) l)) where
+    pub clear-hit : (a : ActiveLock) → f ≡ Lock a → CoverageConflict (a .lock .id) ≡ checkClear l x
+    unfolding checkClear
+    clear-hit a h = sym (ap checkConflict (saw-lock (find (conflicts x) l) f a q h))
+
+    pub clear-miss : f ≡ Nothing → Done ≡ checkClear l x
+    unfolding checkClear
+    clear-miss h = sym (ap checkConflict (saw-none (find (conflicts x) l) f q h))
+
+-- ---- the first child that doesn't fit
+module _ (x : ActiveLock) (o : Option ActiveLock) (f : Seen) (q : f ≡ seen o) where
+  module _ (a : ActiveLock) (h : f ≡ Lock a) where
+    pub child-covered : x .lock .subject ≡ a .lock .subject → NotCovered (a .lock .id) (x .lock .id) ≡ toldChild x o
+    child-covered e = sym (ap (toldChild x) (saw-lock o f a q h) ∙ rw (eq-eqb (x .lock .subject) (a .lock .subject) e))
+
+    pub child-owner : (x .lock .subject ≡ a .lock .subject → ⊥) → OtherOwner (a .lock .id) (x .lock .id) ≡ toldChild x o
+    child-owner e = sym (ap (toldChild x) (saw-lock o f a q h) ∙ rw (ne-eqb (x .lock .subject) (a .lock .subject) e))
+
+  pub child-none : f ≡ Nothing → Done ≡ toldChild x o
+  child-none h = sym (ap (toldChild x) (saw-none o f q h))

@@ -1,0 +1,83 @@
+use mathlib.Core.Path.{_≡_, refl}
+use lib.ListN.{length}
+use Rattle.lists.proofs.Loops.{length-of-mapped}
+use Rattle.state.specs.Locks.{normal}
+use Rattle.operations.specs.Code.{Ready}
+use Rattle.operations.proofs.Inserting.{tested, insert-broken, insert-refused, insert-allowed, insert-done}
+use borrow.Author.Needs.{needs}
+use Rattle.operations.proofs.insert.insert_active.Statement.{statement}
+use Rattle.operations.proofs.insert.insert_active.Tie as tie
+use Rattle.operations.proofs.insert.insert_active.Reads as reads
+use Rattle.operations.proofs.insert.insert_active.Lts as lts
+use Rattle.operations.proofs.answers.is_done.Reads as is-done-reads
+use Rattle.operations.proofs.insert.closed.Reads as closed-reads
+use Rattle.operations.proofs.insert.inserted.Reads as inserted-reads
+use Rattle.operations.proofs.insert.judged.Reads as judged-reads
+use Rattle.rules.proofs.broken.Reads as broken-reads
+use Rattle.state.proofs.normal_form.Reads as normal-form-reads
+
+places : (c : tie.Start) → (length (c .args .s .active) ≡ 64) × (length (c .args .s .defunct) ≡ 128)
+places c = (search (needs, length-of-mapped), search (needs, length-of-mapped))
+
+-- src/insert.rt:145:9
+broken-requires : tie.Need-broken-requires
+broken-requires c κs = search needs
+
+-- src/insert.rt:146:28
+enum-known-v : tie.Need-enum-known-v
+enum-known-v c = search needs
+
+-- src/insert.rt:147:9
+returns : tie.Need-returns
+returns c = let o = c .before .before .before .before in insert-broken (o .args .s) (o .args .lock) (normal (o .args .lock)) refl _ (c .before .before .before .broken .ensures) _ (c .before .v .given .1)
+
+enum-told : tie.Need-enum-told
+enum-told c = search needs
+
+-- src/insert.rt:152:9
+normal-form-requires : tie.Need-normal-form-requires
+normal-form-requires c κs = search needs
+
+-- src/insert.rt:153:9
+judged-requires : tie.Need-judged-requires
+judged-requires c κs = let o = c .before .before .before .before in tested (o .args .s) (o .args .lock) _ (c .normal-form .ensures) _ (c .before .before .before .broken .ensures) (c .before .enum-told .given .1) (places o .0) (places o .1) .tidy
+
+-- src/insert.rt:154:9
+is-done-requires : tie.Need-is-done-requires
+is-done-requires c κs = search needs
+
+-- src/insert.rt:155:9
+returns-2 : tie.Need-returns-2
+returns-2 c = let o = c .before .before .before .before .before .before .before in insert-refused (o .args .s) (o .args .lock) _ (c .before .before .before .normal-form .ensures) _ (c .before .before .before .before .before .before .broken .ensures) (c .before .before .before .before .enum-told .given .1) _ (c .before .before .judged .ensures) _ (c .before .is-done .ensures) (c .if1 .taken)
+
+-- src/insert.rt:157:9
+inserted-requires : tie.Need-inserted-requires
+inserted-requires c κs =
+    let o = c .before .before .before .before .before .before .before in
+    let k : Ready (o .args .s) = tested (o .args .s) (o .args .lock) _ (c .before .before .before .normal-form .ensures) _ (c .before .before .before .before .before .before .broken .ensures) (c .before .before .before .before .enum-told .given .1) (places o .0) (places o .1) in
+    let w = insert-allowed (o .args .s) (o .args .lock) _ (c .before .before .before .normal-form .ensures) _ (c .before .before .before .before .before .before .broken .ensures) (c .before .before .before .before .enum-told .given .1) _ (c .before .before .judged .ensures) _ (c .before .is-done .ensures) (c .if1 .left) k in
+    (k, w .0, w .1)
+
+-- src/insert.rt:158:5
+closed-requires : tie.Need-closed-requires
+closed-requires c κs = search needs
+
+-- src/insert.rt:142:1
+returns-3 : tie.Need-returns-3
+returns-3 c = let o = c .before .before .before .before .before .before .before .before .before in insert-done (o .args .s) (o .args .lock) _ (c .before .before .before .before .before .normal-form .ensures) _ (c .before .before .before .before .before .before .before .before .broken .ensures) (c .before .before .before .before .before .before .enum-told .given .1) _ (c .before .before .before .before .judged .ensures) _ (c .before .before .before .is-done .ensures) (c .before .before .if1 .left) _ _ (c .before .inserted .ensures) (c .closed .ensures)
+
+pub insert-active-spec : {M : Type 1} → statement M
+insert-active-spec =
+    tie.close
+    (tie.spec
+    broken-requires
+    enum-known-v
+    returns
+    enum-told
+    normal-form-requires
+    judged-requires
+    is-done-requires
+    returns-2
+    inserted-requires
+    closed-requires
+    returns-3)

@@ -1,0 +1,241 @@
+// The checks of insertions and of a replacement. Each equals its definition; lists are the first n places of an array.
+// SPDX-License-Identifier: Apache-2.0
+use crate::answers;
+use crate::answers::Answer;
+use crate::trees;
+use ids::LockId;
+use state::ActiveLock;
+use state::DefunctLock;
+use state::ScopeKey;
+ghost use mathlib.Core.Path.{_≡_};
+ghost use Prim.Native.Nat.{ℕ, _≤_};
+ghost use lib.ListN.{take};
+ghost use Rattle.lists.specs.Lists.{any, find};
+ghost use Rattle.state.specs.Locks.{hasId, hasIdD};
+ghost use Rattle.lookups.specs.Reads.{onScope};
+ghost use Rattle.operations.specs.Checks.{checkId, checkScope, checkParent, checkNesting, conflicts, checkClear, checkInsert, checkRevision, toldChild};
+ghost use Rattle.operations.specs.Code.{seen, misfit, flagged};
+
+// What a search among the active locks finds.
+pub(crate) enum Seen {
+    Nothing,
+    Lock(ActiveLock),
+}
+
+// ---- 1
+pub(crate) fn id_defunct(t: [DefunctLock; 128], m: usize, id: LockId) -> bool
+    requires { ⌜ m ≤ 128 ⌝ }
+    ensures { λ r. ⌜ r ≡ any (hasIdD id) (take m t) ⌝ }
+{
+    let mut i: usize = 0;
+    while i < m {
+        let d = t[i];
+        i += 1;
+        if state::has_id_defunct(id, d) {
+            return true;
+        }
+    }
+    false
+}
+
+pub(crate) fn check_id(
+    l: [ActiveLock; 64],
+    n: usize,
+    t: [DefunctLock; 128],
+    m: usize,
+    x: ActiveLock,
+) -> Answer
+    requires { ⌜ (n ≤ 64) × (m ≤ 128) ⌝ }
+    ensures { λ r. ⌜ r ≡ checkId (take n l) (take m t) x ⌝ }
+{
+    let id = x.lock.id;
+    if trees::id_active(l, n, id) | id_defunct(t, m, id) {
+        return Answer::DuplicateId(id);
+    }
+    Answer::Done
+}
+
+// ---- 2
+fn scope_held(l: [ActiveLock; 64], n: usize, scope: ScopeKey) -> bool
+    requires { ⌜ n ≤ 64 ⌝ }
+    ensures { λ r. ⌜ r ≡ any (onScope scope) (take n l) ⌝ }
+{
+    let mut i: usize = 0;
+    while i < n {
+        let a = l[i];
+        i += 1;
+        if lookups::on_scope(scope, a) {
+            return true;
+        }
+    }
+    false
+}
+
+pub(crate) fn check_scope(l: [ActiveLock; 64], n: usize, x: ActiveLock) -> Answer
+    requires { ⌜ n ≤ 64 ⌝ }
+    ensures { λ r. ⌜ r ≡ checkScope (take n l) x ⌝ }
+{
+    let k = x.lock;
+    let scope = k.scope;
+    if scope_held(l, n, scope) {
+        return Answer::DuplicateScope;
+    }
+    Answer::Done
+}
+
+// ---- 4, 5, 11.3, 11.4
+fn find_active(l: [ActiveLock; 64], n: usize, id: LockId) -> Seen
+    requires { ⌜ n ≤ 64 ⌝ }
+    ensures { λ r. ⌜ r ≡ seen (find (hasId id) (take n l)) ⌝ }
+{
+    let mut i: usize = 0;
+    while i < n {
+        let a = l[i];
+        i += 1;
+        if state::has_id(id, a) {
+            return Seen::Lock(a);
+        }
+    }
+    Seen::Nothing
+}
+
+fn check_parent(x: ActiveLock, p: ActiveLock) -> Answer
+    ensures { λ r. ⌜ r ≡ checkParent x p ⌝ }
+{
+    let up = x.parent;
+    let id = x.lock.id;
+    let k = p.lock;
+    let s = k.scope;
+    if !state::is_vehicle(s) {
+        return Answer::ParentNotVehicle(up);
+    }
+    if p.lock.subject != x.lock.subject {
+        return Answer::OtherOwner(id, up);
+    }
+    if !p.lock.coverage.contains(x.lock.coverage) {
+        return Answer::NotCovered(id, up);
+    }
+    Answer::Done
+}
+
+fn check_nesting(l: [ActiveLock; 64], n: usize, x: ActiveLock) -> Answer
+    requires { ⌜ n ≤ 64 ⌝ }
+    ensures { λ r. ⌜ r ≡ checkNesting (take n l) x ⌝ }
+{
+    if !x.child {
+        return Answer::Done;
+    }
+    let up = x.parent;
+    let f = find_active(l, n, up);
+    match f {
+        Seen::Lock(p) => check_parent(x, p),
+        Seen::Nothing => Answer::ParentNotFound(up),
+    }
+}
+
+// ---- 7
+fn in_conflict(x: ActiveLock, a: ActiveLock) -> bool
+    ensures { λ r. ⌜ r ≡ conflicts x a ⌝ }
+{
+    let k = x.lock;
+    let s = k.scope;
+    a.lock.coverage.overlaps(x.lock.coverage)
+        & (a.lock.subject != x.lock.subject)
+        & !state::is_vehicle(s)
+}
+
+fn find_conflict(l: [ActiveLock; 64], n: usize, x: ActiveLock) -> Seen
+    requires { ⌜ n ≤ 64 ⌝ }
+    ensures { λ r. ⌜ r ≡ seen (find (conflicts x) (take n l)) ⌝ }
+{
+    let mut i: usize = 0;
+    while i < n {
+        let a = l[i];
+        i += 1;
+        if in_conflict(x, a) {
+            return Seen::Lock(a);
+        }
+    }
+    Seen::Nothing
+}
+
+fn check_clear(l: [ActiveLock; 64], n: usize, x: ActiveLock) -> Answer
+    requires { ⌜ n ≤ 64 ⌝ }
+    ensures { λ r. ⌜ r ≡ checkClear (take n l) x ⌝ }
+{
+    let f = find_conflict(l, n, x);
+    match f {
+        Seen::Lock(a) => {
+            let id = a.lock.id;
+            Answer::CoverageConflict(id)
+        }
+        Seen::Nothing => Answer::Done,
+    }
+}
+
+// 2, 4, 5, 11.3, 11.4, 7
+pub(crate) fn check_insert(l: [ActiveLock; 64], n: usize, x: ActiveLock) -> Answer
+    requires { ⌜ n ≤ 64 ⌝ }
+    ensures { λ r. ⌜ r ≡ checkInsert (take n l) x ⌝ }
+{
+    let a = check_scope(l, n, x);
+    if !answers::is_done(a) {
+        return a;
+    }
+    let b = check_nesting(l, n, x);
+    if !answers::is_done(b) {
+        return b;
+    }
+    check_clear(l, n, x)
+}
+
+// ---- 8
+pub(crate) fn check_revision(revision: u64) -> Answer
+    ensures { λ r. ⌜ r ≡ checkRevision revision ⌝ }
+{
+    if revision == 18446744073709551615 {
+        return Answer::RevisionOverflow;
+    }
+    Answer::Done
+}
+
+// ---- 11.3, 11.4 of the locks that the vehicle lock x takes in, which are marked
+fn is_misfit(x: ActiveLock, a: ActiveLock) -> bool
+    ensures { λ r. ⌜ r ≡ misfit x a ⌝ }
+{
+    (x.lock.subject != a.lock.subject) | !x.lock.coverage.contains(a.lock.coverage)
+}
+
+fn find_misfit(l: [ActiveLock; 64], n: usize, takes: [bool; 64], x: ActiveLock) -> Seen
+    requires { ⌜ n ≤ 64 ⌝ }
+    ensures { λ r. ⌜ r ≡ seen (find (misfit x) (flagged (take n takes) (take n l))) ⌝ }
+{
+    let mut i: usize = 0;
+    while i < n {
+        let a = l[i];
+        let b = takes[i];
+        i += 1;
+        if b & is_misfit(x, a) {
+            return Seen::Lock(a);
+        }
+    }
+    Seen::Nothing
+}
+
+pub(crate) fn check_taken(l: [ActiveLock; 64], n: usize, takes: [bool; 64], x: ActiveLock) -> Answer
+    requires { ⌜ n ≤ 64 ⌝ }
+    ensures { λ r. ⌜ r ≡ toldChild x (find (misfit x) (flagged (take n takes) (take n l))) ⌝ }
+{
+    let up = x.lock.id;
+    let f = find_misfit(l, n, takes, x);
+    match f {
+        Seen::Lock(a) => {
+            let id = a.lock.id;
+            if x.lock.subject == a.lock.subject {
+                return Answer::NotCovered(id, up);
+            }
+            Answer::OtherOwner(id, up)
+        }
+        Seen::Nothing => Answer::Done,
+    }
+}
