@@ -67,7 +67,7 @@ module _ (s : LockState) (t : Tidy s) (whole : Table) (p : whole ≡ tableOf (mo
   pub ranked : ascending dkey (modelOf s .defunct) ≡ true → Ranked whole
   ranked o = rw p (record { laid = laid-of (modelOf s .defunct) (omega (arith, t .defunct, defunct-count s t)); order = rw (entries-back (modelOf s .defunct)) o })
 
-  module _ (f : List DefunctLock → List DefunctLock) (le : length (f (modelOf s .defunct)) ≤ length (modelOf s .defunct)) (x : Table) (q : x ≡ tableOf (f (entriesOf whole))) where
+  module _ (f : List DefunctLock → List DefunctLock) (le : (l : List DefunctLock) → length (f l) ≤ length l) (x : Table) (q : x ≡ tableOf (f (entriesOf whole))) where
     left : x ≡ tableOf (f (modelOf s .defunct))
     left = q ∙ ap (λ (y : Table). tableOf (f (entriesOf y))) p ∙ ap (λ (l : List DefunctLock). tableOf (f l)) (entries-back (modelOf s .defunct))
 
@@ -75,7 +75,7 @@ module _ (s : LockState) (t : Tidy s) (whole : Table) (p : whole ≡ tableOf (mo
     left-entries = ap entriesOf left ∙ entries-back (f (modelOf s .defunct))
 
     pub left-room : x .count ≤ 128
-    left-room = omega (arith, ap (λ (y : Table). y .count) left, le, t .defunct, defunct-count s t)
+    left-room = omega (arith, ap (λ (y : Table). y .count) left, le (modelOf s .defunct), t .defunct, defunct-count s t)
 
 -- ---- what is told of the next state n
 module _ (s n : LockState) where

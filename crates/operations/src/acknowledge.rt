@@ -5,6 +5,7 @@ use crate::answers::Acknowledgement;
 use crate::answers::DefunctExpiry;
 use crate::answers::DefunctsExpired;
 use crate::answers::Shed;
+use crate::checks;
 use crate::table;
 use crate::table::Table;
 use ids::LockId;
@@ -15,8 +16,7 @@ ghost use mathlib.Core.List.{[]};
 ghost use mathlib.Core.Path.{_≡_};
 ghost use Prim.Native.Nat.{_≤_};
 ghost use lib.ListN.{take};
-ghost use Rattle.lists.specs.Lists.{any, filter};
-ghost use Rattle.state.specs.Locks.{hasIdD};
+ghost use Rattle.lists.specs.Lists.{filter};
 ghost use Rattle.state.specs.Model.{modelOf, stateOf, Tidy};
 ghost use Rattle.operations.specs.Acknowledge.{shedIn, acknowledgedTo, acknowledgeOn, lapsed, idsOfEntries, shed, expireDefunctOn};
 ghost use Rattle.operations.specs.Code.{entriesOf, Ranked};
@@ -39,21 +39,6 @@ fn with_entries(s: LockState, t: Table) -> LockState
 }
 
 // ---- acknowledge_defunct
-fn has_entry(l: [DefunctLock; 128], n: usize, id: LockId) -> bool
-    requires { ⌜ n ≤ 128 ⌝ }
-    ensures { λ r. ⌜ r ≡ any (hasIdD id) (take n l) ⌝ }
-{
-    let mut i: usize = 0;
-    while i < n {
-        let d = l[i];
-        i += 1;
-        if state::has_id_defunct(id, d) {
-            return true;
-        }
-    }
-    false
-}
-
 // The original's closing check comes after the change, which it does not undo.
 fn settle(s: LockState, next: LockState) -> Acknowledged
     ensures { λ r. ⌜ r ≡ acknowledgedTo s next ⌝ }
@@ -88,7 +73,7 @@ pub fn acknowledge_defunct(s: LockState, id: LockId) -> Acknowledged
         };
     }
     let e = s.defunct;
-    if !has_entry(e, s.defuncts, id) {
+    if !checks::id_defunct(e, s.defuncts, id) {
         return Acknowledged {
             told: Acknowledgement::Absent,
             state: s,

@@ -2,8 +2,8 @@
 // SPDX-License-Identifier: Apache-2.0
 pub mod acknowledge;
 pub mod answers;
-pub mod delete;
 mod checks;
+pub mod delete;
 pub mod insert;
 pub mod renew;
 mod table;

@@ -81,7 +81,7 @@ loop-less c = omega arith
 
 -- src/acknowledge.rt:119:5
 loop-again : tie.Need-loop-again Inv-loop μ-loop
-loop-again c = 
+loop-again c =
     let b = c .before .before .before .before in
     (omega arith, omega arith, push 128 noId (kept (b .before)) _ _ _ _ (b .before .loop .inv .2) (room b) (sift-yes _ _ _ _ _ (inside b) (sym (c .before .before .has-lapsed .ensures) ∙ c .before .if1 .taken)))
 
@@ -91,13 +91,13 @@ loop-less-2 c = omega arith
 
 -- src/acknowledge.rt:119:5
 loop-again-2 : tie.Need-loop-again-2 Inv-loop μ-loop
-loop-again-2 c = 
+loop-again-2 c =
     let b = c .before .before .before in
     (omega arith, omega arith, stay 128 noId (kept (b .before)) _ _ _ (b .before .loop .inv .2) (sift-no _ _ _ _ _ (inside b) (sym (c .before .has-lapsed .ensures) ∙ c .if1 .left)))
 
 -- src/acknowledge.rt:111:1
 returns : tie.Need-returns Inv-loop μ-loop
-returns c = 
+returns c =
     let b = c .before in
     let e : b .loop .i ≡ b .before .args .n = omega arith in
     told (kept b) _ _ (b .loop .inv .2) ∙ ap (λ (i : ℕ). idsTold (chosen (b .before .args .clock) (b .before .args .t1) i)) e

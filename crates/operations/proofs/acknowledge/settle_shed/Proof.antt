@@ -1,3 +1,6 @@
+use mathlib.Core.Path.{_∙_}
+use borrow.Author.Tests.{eq-eqb, ne-eqb}
+use Rattle.operations.proofs.Shedding as laws
 use borrow.Author.Needs.{needs}
 use Rattle.operations.proofs.acknowledge.settle_shed.Statement.{statement}
 use Rattle.operations.proofs.acknowledge.settle_shed.Tie as tie
@@ -12,7 +15,7 @@ none-shed-requires c κs = search needs
 
 -- src/acknowledge.rt:169:9
 returns : tie.Need-returns
-returns c = ?
+returns c = c .none-shed .ensures ∙ laws.shed-last _ _ _ (eq-eqb _ _ (c .before .if1 .taken))
 
 -- src/acknowledge.rt:171:9
 broken-requires : tie.Need-broken-requires
@@ -32,11 +35,11 @@ none-shed-requires-2 c κs = search needs
 
 -- src/acknowledge.rt:165:1
 returns-2 : tie.Need-returns-2
-returns-2 c = ?
+returns-2 c = laws.shed-done _ _ (ne-eqb _ _ (c .before .before .before .if1 .left)) _ (c .before .before .broken .ensures) _ (c .enum-told .given .1)
 
 -- src/acknowledge.rt:165:1
 returns-3 : tie.Need-returns-3
-returns-3 c = ?
+returns-3 c = c .none-shed2 .ensures ∙ laws.shed-broken _ _ (ne-eqb _ _ (c .before .before .before .before .if1 .left)) _ (c .before .before .before .broken .ensures) _ _ (c .before .enum-told2 .given .1)
 
 pub settle-shed-spec : {M : Type 1} → statement M
 settle-shed-spec =

@@ -51,7 +51,7 @@ loop-less c = omega arith
 -- src/acknowledge.rt:142:5
 loop-again : tie.Need-loop-again Inv-loop μ-loop
 unfolding blankDefunct
-loop-again c = 
+loop-again c =
     let o = c .before .before .before .before in
     let l = c .before .before .before .loop in
     (omega arith, simp length-set (l .inv .1), mark-more (λ j. lapsed (o .args .clock) (getD (o .args .t1 .entries) j blankDefunct)) (l .goes) (l .i) _ (omega (arith, l .inv .1, o .pre .laid .room)) (c .has-lapsed .ensures) (l .inv .2))
@@ -62,7 +62,7 @@ shed-requires c κs = c .before .before .pre
 
 -- src/acknowledge.rt:135:1
 returns : tie.Need-returns Inv-loop μ-loop
-returns c = 
+returns c =
     let o = c .before .before .before in
     let l = c .before .before .loop in
     let e : l .i ≡ o .args .t1 .count = omega arith in
