@@ -1,7 +1,7 @@
 -- The first element that passes a test: the place where a loop stops, what is found there, and a change at that place alone.
 -- Assumes nothing.
 use mathlib.Core.Bool.{Bool, true, false, cond}
-use mathlib.Core.List.{List, [], _∷_, map, List·Memᴰ·head}
+use mathlib.Core.List.{List, [], _∷_, map, List·Memᴰ·head, List·Memᴰ·tail}
 use mathlib.Core.Option.{Option, none, some}
 use mathlib.Core.Path.{_≡_, refl, sym, ap, _∙_}
 use Prim.Native.Nat.{ℕ, zero, suc, _+_, _≤_, _<_, zero-le, suc-le-suc}
@@ -12,10 +12,11 @@ use lib.ListN.{length, getD, set}
 use lib.Seq.{slice, slice-empty}
 use borrow.Author.Tests.{eqb-true, ne-eqb}
 use Rattle.lists.specs.Tests.{non, Yes, No}
-use Rattle.lists.specs.Lists.{find, Mem, from, ascending}
+use Rattle.lists.specs.Lists.{any, filter, find, Mem, from, ascending}
 use Rattle.lists.specs.Places.{leading}
-use Rattle.lists.proofs.Lists.{from→, rest}
-use Rattle.lists.proofs.Loops.{rest-step}
+use Rattle.lists.proofs.Tests.{→no, by}
+use Rattle.lists.proofs.Lists.{any→, →filter, from→, rest}
+use Rattle.lists.proofs.Loops.{rest-step, filter-none}
 
 module _ {A : Type 0} (p : A → Bool) where
   -- how many elements stand before the first that passes
@@ -94,3 +95,15 @@ module _ {A : Type 0} (k : A → ℕ) (v : ℕ) (f : A → A) where
       go : (c : Bool) → eqb (k x) v ≡ c → keyPlace k v (x ∷ xs) < suc (length xs) → (keyPlace k v xs < length xs → map changed xs ≡ set xs (keyPlace k v xs) (f (getD xs (keyPlace k v xs) d))) → map changed (x ∷ xs) ≡ set (x ∷ xs) (keyPlace k v (x ∷ xs)) (f (getD (x ∷ xs) (keyPlace k v (x ∷ xs)) d))
       go true e g r = rw (at-place (λ a. eqb (k a) v) x xs true e, e, unchanged (suc (k x)) xs (rest k b x xs t) (omega (arith, eqb-true (k x) v e)))
       go false e g r = let q = at-place (λ a. eqb (k a) v) x xs false e in rw (q, e, r (omega (arith, rw q at g)))
+
+-- ---- whether a test keeps anything, by the length of what it keeps
+module _ {A : Type 0} (p : A → Bool) (l : List A) where
+  pub none-kept : length (filter p l) ≡ 0 → any p l ≡ false
+  none-kept e = →no (any p l) (λ t. let w = any→ p l t in some-in (→filter p l (w .1) (w .2)) e)
+    where
+      some-in : {m : List A} {a : A} → Mem a m → length m ≡ 0 → ⊥
+      some-in {m = x ∷ xs} (List·Memᴰ·head q) e = omega arith
+      some-in {m = x ∷ xs} (List·Memᴰ·tail n) e = omega arith
+
+  pub some-kept : (length (filter p l) ≡ 0 → ⊥) → any p l ≡ true
+  some-kept f = by (any p l) (any p l ≡ true) (λ t. t) (λ n. absurd (f (ap length (filter-none p l n))))

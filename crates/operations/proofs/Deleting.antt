@@ -13,7 +13,7 @@ use Rattle.state.specs.declared.ActiveLock.{ActiveLock}
 use Rattle.state.specs.declared.LockState.{LockState}
 use Rattle.state.specs.Locks.{hasId}
 use Rattle.state.specs.Model.{Model, modelOf, stateOf, Tidy}
-use Rattle.state.proofs.Laws.{active-in, defunct-count, defunct-in}
+use Rattle.state.proofs.Laws.{defunct-count, defunct-in}
 use Rattle.rules.specs.declared.Verdict.{Verdict}
 use Rattle.rules.specs.declared.Verdict.the-variants.{Sound, Broken}
 use Rattle.rules.specs.Rules.{brokenRule, isSound}
@@ -28,16 +28,13 @@ use Rattle.operations.specs.declared.answers.Expired.{Expired}
 use Rattle.operations.specs.declared.trees.Split.{Split}
 use Rattle.operations.specs.Trees.{Parts, startParts, treeParts}
 use Rattle.operations.specs.Checks.{atLast}
-use Rattle.operations.specs.Code.{Placed, splitOf}
+use Rattle.operations.specs.Code.{splitOf}
 use Rattle.operations.specs.Place.{asExpired}
 use Rattle.operations.specs.Delete.{treeOut, withoutTree, deleted, closedDelete, deleteFound, deleteOn, expired, closedExpire, expireFound, beginExpirationOn}
 use Rattle.operations.proofs.Closing.{closed-sound, closed-broken}
 
 -- ---- the tree of r out
 module _ (s : LockState) (t : Tidy s) where
-  pub placed : Placed (s .active) (s .actives)
-  placed = record { room = t .active; same = active-in s t }
-
   module _ (i : LockId) (r : ActiveLock) where
     pub at-end : eqb (s .revision) 18446744073709551615 ≡ true → deleted deletion.RevisionOverflow [] s ≡ deleteFound s i (some r)
     unfolding deleteFound atLast

@@ -10,5 +10,6 @@ pub mod Finding
 pub mod Closing
 pub mod Renewing
 pub mod Deleting
+pub mod Shedding
 pub mod Papers
 pub mod Traps

@@ -1,5 +1,6 @@
 use mathlib.Core.Path.{_∙_}
 use borrow.Author.Tests.{eq-eqb, ne-eqb}
+use Rattle.operations.proofs.Inserting.{active-placed}
 use Rattle.operations.proofs.Deleting as laws
 use borrow.Author.Needs.{needs}
 use Rattle.operations.proofs.delete.remove.Statement.{statement}
@@ -20,7 +21,7 @@ returns c = c .kept .ensures ∙ laws.at-end _ (c .before .before .before .pre) 
 
 -- src/delete.rt:45:9
 tree-out-requires : tie.Need-tree-out-requires
-tree-out-requires c κs = laws.placed _ (c .before .before .before .pre)
+tree-out-requires c κs = active-placed _ (c .before .before .before .pre)
 
 -- src/delete.rt:48:21
 add-next : tie.Need-add-next

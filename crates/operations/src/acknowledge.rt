@@ -1,0 +1,180 @@
+// Defunct entries that go: one that is acknowledged (12, Absent, 8), and those whose time has come (12, none, 8).
+// SPDX-License-Identifier: Apache-2.0
+use crate::answers::Acknowledged;
+use crate::answers::Acknowledgement;
+use crate::answers::DefunctExpiry;
+use crate::answers::DefunctsExpired;
+use crate::answers::Shed;
+use crate::checks;
+use crate::table;
+use crate::table::Table;
+use ids::LockId;
+use rules::Verdict;
+use state::DefunctLock;
+use state::LockState;
+ghost use mathlib.Core.List.{[]};
+ghost use mathlib.Core.Path.{_≡_};
+ghost use Prim.Native.Nat.{_≤_};
+ghost use lib.ListN.{take};
+ghost use Rattle.lists.specs.Lists.{filter};
+ghost use Rattle.state.specs.Model.{modelOf, stateOf, Tidy};
+ghost use Rattle.operations.specs.Acknowledge.{shedIn, acknowledgedTo, acknowledgeOn, lapsed, idsOfEntries, shed, expireDefunctOn};
+ghost use Rattle.operations.specs.Code.{entriesOf, Ranked};
+ghost use Rattle.operations.specs.Place.{idsTold, shedBy, expiredTable};
+
+// The state with the table's entries, one revision on. At the last revision they are gone all the same (8).
+fn with_entries(s: LockState, t: Table) -> LockState
+    requires { ⌜ Tidy s × (t .count ≤ 128) ⌝ }
+    ensures { λ r. ⌜ r ≡ stateOf (shedIn (modelOf s) (entriesOf t)) ⌝ }
+{
+    let e = table::narrowed(t);
+    let mut next = s;
+    next.defunct = e;
+    next.defuncts = t.count;
+    if s.revision == 18446744073709551615 {
+        return next;
+    }
+    next.revision = s.revision + 1;
+    next
+}
+
+// ---- acknowledge_defunct
+// The original's closing check comes after the change, which it does not undo.
+fn settle(s: LockState, next: LockState) -> Acknowledged
+    ensures { λ r. ⌜ r ≡ acknowledgedTo s next ⌝ }
+{
+    if s.revision == 18446744073709551615 {
+        return Acknowledged {
+            told: Acknowledgement::RevisionOverflow,
+            state: next,
+        };
+    }
+    let v = rules::broken(next);
+    match v {
+        Verdict::Sound => Acknowledged {
+            told: Acknowledgement::Done,
+            state: next,
+        },
+        Verdict::Broken(_) => Acknowledged {
+            told: Acknowledgement::Invariant,
+            state: next,
+        },
+    }
+}
+
+pub fn acknowledge_defunct(s: LockState, id: LockId) -> Acknowledged
+    ensures { λ r. ⌜ r ≡ acknowledgeOn s id ⌝ }
+{
+    let v = rules::broken(s);
+    if let Verdict::Broken(n) = v {
+        return Acknowledged {
+            told: Acknowledgement::UnsoundState(n),
+            state: s,
+        };
+    }
+    let e = s.defunct;
+    if !checks::id_defunct(e, s.defuncts, id) {
+        return Acknowledged {
+            told: Acknowledgement::Absent,
+            state: s,
+        };
+    }
+    let whole = table::widened(e, s.defuncts);
+    let rest = table::splice(whole, id);
+    let next = with_entries(s, rest);
+    settle(s, next)
+}
+
+// ---- expire_defunct
+fn has_lapsed(clock: u64, d: DefunctLock) -> bool
+    ensures { λ r. ⌜ r ≡ lapsed clock d ⌝ }
+{
+    d.expires <= clock
+}
+
+// The ids of the entries that have expired, ascending.
+fn lapsed_ids(l: [DefunctLock; 128], n: usize, clock: u64) -> Shed
+    requires { ⌜ n ≤ 128 ⌝ }
+    ensures { λ r. ⌜ r ≡ idsTold (idsOfEntries (filter (lapsed clock) (take n l))) ⌝ }
+{
+    let z = LockId { hi: 0, lo: 0 };
+    let mut ids = [z; 128];
+    let mut w: usize = 0;
+    let mut i: usize = 0;
+    while i < n {
+        let d = l[i];
+        i += 1;
+        if has_lapsed(clock, d) {
+            let id = d.lock.id;
+            ids[w] = id;
+            w += 1;
+        }
+    }
+    Shed {
+        answer: DefunctExpiry::Done,
+        gone: w,
+        ids,
+    }
+}
+
+fn without_lapsed(t: Table, clock: u64) -> Table
+    requires { ⌜ Ranked t ⌝ }
+    ensures { λ r. ⌜ r ≡ expiredTable clock t ⌝ }
+{
+    let n = t.count;
+    let mut goes = [false; 192];
+    let mut i: usize = 0;
+    while i < n {
+        let d = t.entries[i];
+        goes[i] = has_lapsed(clock, d);
+        i += 1;
+    }
+    table::shed(t, goes)
+}
+
+fn none_shed(a: DefunctExpiry, s: LockState) -> DefunctsExpired
+    ensures { λ r. ⌜ r ≡ shed a [] s ⌝ }
+{
+    let z = LockId { hi: 0, lo: 0 };
+    DefunctsExpired {
+        told: Shed {
+            answer: a,
+            gone: 0,
+            ids: [z; 128],
+        },
+        state: s,
+    }
+}
+
+// As for an acknowledgement: a refusal by 8 leaves the entries gone, and lists none.
+fn settle_shed(s: LockState, told: Shed, next: LockState) -> DefunctsExpired
+    ensures { λ r. ⌜ r ≡ shedBy s told next ⌝ }
+{
+    if s.revision == 18446744073709551615 {
+        return none_shed(DefunctExpiry::RevisionOverflow, next);
+    }
+    let v = rules::broken(next);
+    match v {
+        Verdict::Sound => DefunctsExpired { told, state: next },
+        Verdict::Broken(_) => none_shed(DefunctExpiry::Invariant, next),
+    }
+}
+
+// The entries whose original_expires_at has come go; their ids are listed.
+pub fn expire_defunct(s: LockState, clock: u64) -> DefunctsExpired
+    ensures { λ r. ⌜ r ≡ expireDefunctOn s clock ⌝ }
+{
+    let v = rules::broken(s);
+    if let Verdict::Broken(n) = v {
+        return none_shed(DefunctExpiry::UnsoundState(n), s);
+    }
+    let e = s.defunct;
+    let told = lapsed_ids(e, s.defuncts, clock);
+    if told.gone == 0 {
+        return none_shed(DefunctExpiry::Done, s);
+    }
+    let whole = table::widened(e, s.defuncts);
+    let rest = without_lapsed(whole, clock);
+    let next = with_entries(s, rest);
+    settle_shed(s, told, next)
+}
