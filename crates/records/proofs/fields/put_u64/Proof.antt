@@ -1,0 +1,45 @@
+use denote.Ref.{now}
+use Rattle.records.proofs.Numbers.{little-put}
+use native.Mathlib.Omega.{arith}
+use borrow.Author.Needs.{needs}
+use Rattle.records.proofs.fields.put_u64.Statement.{statement}
+use Rattle.records.proofs.fields.put_u64.Tie as tie
+use Rattle.records.proofs.fields.put_u64.Reads as reads
+use Rattle.records.proofs.fields.put_u64.Lts as lts
+use Rattle.records.proofs.fields.put_u32.Reads as put-u32-reads
+
+cast-put-u32 : tie.Need-cast-put-u32
+cast-put-u32 c = search needs
+
+put-u32-requires : tie.Need-put-u32-requires
+put-u32-requires c κs = search needs
+
+add-put-u32 : tie.Need-add-put-u32
+add-put-u32 c = search needs
+
+cast-put-u32-2 : tie.Need-cast-put-u32-2
+cast-put-u32-2 c = search needs
+
+put-u32-requires-2 : tie.Need-put-u32-requires-2
+put-u32-requires-2 c κs = search needs
+
+same-length : tie.Need-same-length
+same-length c = search needs
+
+returns : tie.Need-returns
+returns c =
+    let a = c .before .before .before .before .before .before .before .before .before .args in
+    rw (c .before .before .put-u322 .ensures, c .before .before .before .before .before .before .put-u32 .ensures)
+    (little-put 4 4 (now (a .out)) (a .at) (a .v) (omega (arith, c .before .before .before .before .before .before .before .before .before .pre)))
+
+pub put-u64-spec : {M : Type 1} → statement M
+put-u64-spec =
+    tie.close
+    (tie.spec
+    cast-put-u32
+    put-u32-requires
+    add-put-u32
+    cast-put-u32-2
+    put-u32-requires-2
+    same-length
+    returns)

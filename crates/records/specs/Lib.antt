@@ -1,0 +1,6 @@
+pub mod Numbers
+pub mod Layouts
+pub mod Codecs
+pub mod Table
+pub mod Framing
+pub mod Wire

@@ -1,0 +1,207 @@
+// The bodies of HEAD, ACTIVE and DEFUNCT: each is read from a part of a slice that is that body.
+// SPDX-License-Identifier: Apache-2.0
+use crate::fields;
+use coverage::LockCoverage;
+use ids::LockId;
+use state::ActiveLock;
+use state::DefunctLock;
+use state::Lock;
+use state::ScopeKey;
+ghost use mathlib.Core.Path.{_≡_};
+ghost use Prim.Native.Nat.{_+_, _≤_};
+ghost use lib.ListN.{length};
+ghost use Rattle.records.specs.Numbers.{field, big};
+ghost use Rattle.records.specs.Codecs.{inBody, decodeBy};
+ghost use Rattle.records.specs.Wire.{id, scopeOf, scopeRight, setRight, parentRight, lockStart, active, defunct, head};
+
+// expected: the sequence number that is due next in the feed.
+pub struct Head {
+    pub revision: u64,
+    pub expected: u32,
+    pub actives: u16,
+    pub defuncts: u16,
+}
+
+pub enum HeadRead {
+    Good(Head),
+    BadField,
+}
+
+pub enum ActiveRead {
+    Good(ActiveLock),
+    BadField,
+}
+
+pub enum DefunctRead {
+    Good(DefunctLock),
+    BadField,
+}
+
+// ---- what is right of the numbers
+fn scope_right(kind: u8, number: u8) -> bool
+    ensures { λ r. ⌜ r ≡ scopeRight kind number ⌝ }
+{
+    (kind <= 2) & ((kind != 0) | (number == 0))
+}
+
+fn set_right(kind: u8, w0: u64, w1: u64, w2: u64, w3: u64) -> bool
+    ensures { λ r. ⌜ r ≡ setRight kind w0 w1 w2 w3 ⌝ }
+{
+    (kind <= 1) & ((kind != 0) | ((w0 == 0) & (w1 == 0) & (w2 == 0) & (w3 == 0)))
+}
+
+fn parent_right(kind: u8, hi: u64, lo: u64) -> bool
+    ensures { λ r. ⌜ r ≡ parentRight kind hi lo ⌝ }
+{
+    (kind <= 1) & ((kind != 0) | ((hi == 0) & (lo == 0)))
+}
+
+fn lock_right(s: &[u8]) -> bool
+    requires { ⌜ 62 ≤ length (now s) ⌝ }
+    ensures { λ r. ⌜ r ≡ lockStart .right (inBody lockStart (now (s .entry))) ⌝ }
+{
+    let scope = scope_right(fields::u8_at(s, 16), fields::u8_at(s, 17));
+    let exclusive = fields::u8_at(s, 18) <= 1;
+    let set = set_right(
+        fields::u8_at(s, 19),
+        fields::u64_at(s, 20),
+        fields::u64_at(s, 28),
+        fields::u64_at(s, 36),
+        fields::u64_at(s, 44),
+    );
+    scope & exclusive & set
+}
+
+pub(crate) fn active_right(s: &[u8]) -> bool
+    requires { ⌜ 87 ≤ length (now s) ⌝ }
+    ensures { λ r. ⌜ r ≡ active .right (inBody active (now (s .entry))) ⌝ }
+{
+    let lock = lock_right(s);
+    let parent = parent_right(
+        fields::u8_at(s, 70),
+        fields::big64_at(s, 71),
+        fields::big64_at(s, 79),
+    );
+    lock & parent
+}
+
+// ---- what the numbers make
+pub(crate) fn id_at(s: &[u8], at: usize) -> LockId
+    requires { ⌜ at + 16 ≤ length (now s) ⌝ }
+    ensures { λ r. ⌜ r ≡ id (field (big 8) (now (s .entry)) at) (field (big 8) (now (s .entry)) (at + 8)) ⌝ }
+{
+    LockId {
+        hi: fields::big64_at(s, at),
+        lo: fields::big64_at(s, at + 8),
+    }
+}
+
+fn scope_of(kind: u8, number: u8) -> ScopeKey
+    ensures { λ r. ⌜ r ≡ scopeOf kind number ⌝ }
+{
+    if kind == 0 {
+        return ScopeKey::Vehicle;
+    }
+    if kind == 1 {
+        return ScopeKey::Ecu(number);
+    }
+    ScopeKey::FunctionalGroup(number)
+}
+
+fn lock_made(s: &[u8]) -> Lock
+    requires { ⌜ 62 ≤ length (now s) ⌝ }
+    ensures { λ r. ⌜ r ≡ lockStart .made (inBody lockStart (now (s .entry))) ⌝ }
+{
+    let coverage = LockCoverage {
+        w0: fields::u64_at(s, 20),
+        w1: fields::u64_at(s, 28),
+        w2: fields::u64_at(s, 36),
+        w3: fields::u64_at(s, 44),
+        whole: fields::u8_at(s, 19) == 0,
+    };
+    Lock {
+        id: id_at(s, 0),
+        coverage,
+        principal: fields::u32_at(s, 54),
+        metadata: fields::u32_at(s, 58),
+        subject: fields::u16_at(s, 52),
+        scope: scope_of(fields::u8_at(s, 16), fields::u8_at(s, 17)),
+        exclusive: fields::u8_at(s, 18) == 1,
+    }
+}
+
+pub(crate) fn active_made(s: &[u8]) -> ActiveLock
+    requires { ⌜ 87 ≤ length (now s) ⌝ }
+    ensures { λ r. ⌜ r ≡ active .made (inBody active (now (s .entry))) ⌝ }
+{
+    ActiveLock {
+        lock: lock_made(s),
+        parent: id_at(s, 71),
+        expires: fields::u64_at(s, 62),
+        child: fields::u8_at(s, 70) == 1,
+    }
+}
+
+fn defunct_made(s: &[u8]) -> DefunctLock
+    requires { ⌜ 100 ≤ length (now s) ⌝ }
+    ensures { λ r. ⌜ r ≡ defunct .made (inBody defunct (now (s .entry))) ⌝ }
+{
+    DefunctLock {
+        lock: lock_made(s),
+        target: id_at(s, 82),
+        expires: fields::u64_at(s, 62),
+        broken: fields::u64_at(s, 70),
+        breaker: fields::u32_at(s, 78),
+        holder: fields::u16_at(s, 98),
+    }
+}
+
+fn head_made(s: &[u8]) -> Head
+    requires { ⌜ 16 ≤ length (now s) ⌝ }
+    ensures { λ r. ⌜ r ≡ head .made (inBody head (now (s .entry))) ⌝ }
+{
+    Head {
+        revision: fields::u64_at(s, 0),
+        expected: fields::u32_at(s, 8),
+        actives: fields::u16_at(s, 12),
+        defuncts: fields::u16_at(s, 14),
+    }
+}
+
+// ---- the three bodies
+pub fn decode_head(s: &[u8]) -> HeadRead
+    ensures { λ r. ⌜ r ≡ decodeBy head HeadRead.Good HeadRead.BadField (now (s .entry)) ⌝ }
+{
+    if s.len() != 16 {
+        return HeadRead::BadField;
+    }
+    let h = head_made(s);
+    if (h.actives <= 64) & (h.defuncts <= 128) {
+        return HeadRead::Good(h);
+    }
+    HeadRead::BadField
+}
+
+pub fn decode_active(s: &[u8]) -> ActiveRead
+    ensures { λ r. ⌜ r ≡ decodeBy active ActiveRead.Good ActiveRead.BadField (now (s .entry)) ⌝ }
+{
+    if s.len() != 87 {
+        return ActiveRead::BadField;
+    }
+    if active_right(s) {
+        return ActiveRead::Good(active_made(s));
+    }
+    ActiveRead::BadField
+}
+
+pub fn decode_defunct(s: &[u8]) -> DefunctRead
+    ensures { λ r. ⌜ r ≡ decodeBy defunct DefunctRead.Good DefunctRead.BadField (now (s .entry)) ⌝ }
+{
+    if s.len() != 100 {
+        return DefunctRead::BadField;
+    }
+    if lock_right(s) {
+        return DefunctRead::Good(defunct_made(s));
+    }
+    DefunctRead::BadField
+}

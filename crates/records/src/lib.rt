@@ -1,0 +1,7 @@
+// Records: numbers in bytes, the table of kinds, framing.
+// SPDX-License-Identifier: Apache-2.0
+pub mod bodies;
+pub mod fields;
+pub mod frame;
+pub mod kinds;
+pub mod writing;
