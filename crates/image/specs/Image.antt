@@ -85,12 +85,15 @@ pub record Held : Type 0 where
 abbrev pub heldOf : Head → List ActiveLock → List DefunctLock → Held
 heldOf h xs ys = record { model = record { revision = h .revision; active = xs; defunct = ys }; expected = h .expected }
 
+-- the lists that HEAD counts, from `at` on, and nothing after them
+unfoldable pub listsAt : List ℕ → Head → ℕ → Got Held
+listsAt s h at =
+    andThen (runAt activeList s (h .actives) 0 at)
+    (λ xs next. andThen (runAt defunctList s (h .defuncts) 0 next)
+    (λ ys end. cond (ltb end (length s)) (stopped (BadOrder end)) (got (heldOf h xs ys) end)))
+
 unfoldable pub heldIn : List ℕ → Got Held
-heldIn s =
-    andThen (recordAt wire.head atHead s 0)
-    (λ h at. andThen (runAt activeList s (h .actives) 0 at)
-    (λ xs at′. andThen (runAt defunctList s (h .defuncts) 0 at′)
-    (λ ys end. cond (ltb end (length s)) (stopped (BadOrder end)) (got (heldOf h xs ys) end))))
+heldIn s = andThen (recordAt wire.head atHead s 0) (listsAt s)
 
 abbrev pub spareOf : Held → Spare
 spareOf h = record { state = stateOf (h .model); expected = h .expected }

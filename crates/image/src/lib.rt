@@ -2,6 +2,7 @@
 // SPDX-License-Identifier: Apache-2.0
 use state::LockState;
 
+pub mod read;
 pub mod reader;
 
 // A spare adapter: its state, and the sequence number that is due next in the feed.

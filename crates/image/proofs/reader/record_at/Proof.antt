@@ -15,7 +15,6 @@ use Rattle.image.proofs.reader.place_of.Reads as place-of-reads
 use Rattle.image.proofs.reader.refused.Reads as refused-reads
 use Rattle.records.proofs.frame.frame_at.Reads as frame-at-reads
 
-
 -- the part that the frame names is within
 spanned : (c : tie.After-struct-known) → Spans (now (c .before .before .before .before .before .before .before .args .image)) (c .before .before .f .given .0 .0)
 spanned c = spans _ (c .before .before .before .before .before .before .before .args .at) (c .before .before .before .before .before .place-of .result) _ (sym (c .before .before .before .before .frame-at .ensures) ∙ c .before .before .f .given .1)
