@@ -102,9 +102,11 @@ module _ {R : Type 0} (e : Listed R) where
     module _ (locks : List R) (k at i : ℕ) (g : Going locks k at i) where
       pub ends : n ≤ i → (runAt e s n 0 from ≡ got (g .list) at) × (locks ≡ inPlaces (e .most) (e .blank) (g .list))
       unfolding runAt
-      ends h =
-          (g .reading ∙ ap (λ (m : ℕ). allAhead (g .list) (runAt e s m (lowOf i k) at)) (let z : n - i ≡ 0 = omega arith in z)
-          ∙ ap (λ (x : List R). got x at) (append-nil (g .list)), g .held .0)
+      ends h = (
+        g .reading ∙ ap (λ (m : ℕ). allAhead (g .list) (runAt e s m (lowOf i k) at)) (let z : n - i ≡ 0 = omega arith in z)
+            ∙ ap (λ (x : List R). got x at) (append-nil (g .list)),
+        g .held .0,
+      )
 
       module _ (h : i < n) where
         next-is : runAt e s n 0 from ≡ allAhead (g .list) (andThen (recordAt (e .codec) (e .place) s at) (following s (n - (i + 1)) (lowOf i k) at))

@@ -5,14 +5,11 @@ use mathlib.Core.List.{List, []}
 use Rattle.lists.specs.Places.{inPlaces}
 use Rattle.state.specs.declared.ActiveLock.{ActiveLock}
 use Rattle.state.specs.declared.DefunctLock.{DefunctLock}
-use Rattle.state.specs.Locks.{blankActive, blankDefunct}
-use Rattle.records.specs.declared.bodies.Head.{Head}
-use Rattle.image.specs.declared.Imaged.{Imaged}
 use Rattle.image.specs.declared.Reading.{Reading}
 use Rattle.image.specs.declared.Reading.the-variants.{Done, Torn, BadKind, BadField, BadOrder, UnsoundState}
 use Rattle.image.specs.declared.read.Actives.{Actives}
 use Rattle.image.specs.declared.read.Defuncts.{Defuncts}
-use Rattle.image.specs.Image.{Got, stopped, got}
+use Rattle.image.specs.Image.{Got, stopped, got, Listed, activeList, defunctList}
 
 abbrev pub isDone : Reading → Bool
 isDone Done = true
@@ -23,10 +20,20 @@ isDone (BadOrder x) = false
 isDone (UnsoundState x) = false
 
 -- a run in an array: blanks where it was refused
+abbrev pub toldOf : {A : Type 0} → Got A → Reading
+toldOf (stopped x) = x
+toldOf (got a n) = Done
+
+abbrev pub afterOf : {A : Type 0} → Got A → ℕ
+afterOf (stopped x) = 0
+afterOf (got a n) = n
+
+abbrev pub placesOf : {R : Type 0} → Listed R → Got (List R) → List R
+placesOf e (stopped x) = inPlaces (e .most) (e .blank) []
+placesOf e (got l n) = inPlaces (e .most) (e .blank) l
+
 abbrev pub ranActives : Got (List ActiveLock) → Actives
-ranActives (stopped x) = record { told = x; at = 0; locks = inPlaces 64 blankActive [] }
-ranActives (got l n) = record { told = Done; at = n; locks = inPlaces 64 blankActive l }
+ranActives g = record { told = toldOf g; at = afterOf g; locks = placesOf activeList g }
 
 abbrev pub ranDefuncts : Got (List DefunctLock) → Defuncts
-ranDefuncts (stopped x) = record { told = x; at = 0; locks = inPlaces 128 blankDefunct [] }
-ranDefuncts (got l n) = record { told = Done; at = n; locks = inPlaces 128 blankDefunct l }
+ranDefuncts g = record { told = toldOf g; at = afterOf g; locks = placesOf defunctList g }

@@ -34,7 +34,7 @@ blank-defunct-requires c κs = search needs
 
 -- src/read.rt:86:5
 loop-holds : tie.Need-loop-holds Inv-loop μ-loop
-loop-holds c = 
+loop-holds c =
     let a = c .before .before .args in
     subst⁻¹ (λ (b : DefunctLock). Going defunctList (now (a .image)) (a .n) (a .from) (replicate 128 b) (key noId) (a .from) 0) (c .blank-defunct .ensures) (starts defunctList (now (a .image)) (a .n) (a .from) (key noId))
 
@@ -56,7 +56,7 @@ no-defuncts-requires c κs = search needs
 
 -- src/read.rt:93:21
 returns : tie.Need-returns Inv-loop μ-loop
-returns c = 
+returns c =
     let a = c .before .before .before .before .before .before .before .before .before .before .before .before .args in
     let l = c .before .before .before .before .before .before .before .before .before .loop in
     c .no-defuncts .ensures ∙ ap ranDefuncts (sym (disorders defunctList (now (a .image)) (a .n) (a .from) (l .locks) (key (l .last)) (l .at) (l .i) (l .inv) (c .before .before .before .before .before .before .before .before .loop-test .taken) (c .before .before .before .before .before .step .given .0 .0) (c .before .before .before .before .before .before .before .record-at .result .at)
@@ -81,7 +81,7 @@ loop-less c = search needs
 
 -- src/read.rt:86:5
 loop-again : tie.Need-loop-again Inv-loop μ-loop
-loop-again c = 
+loop-again c =
     let a = c .before .before .before .before .before .before .before .before .before .before .before .args in
     let l = c .before .before .before .before .before .before .before .before .loop in
     turns defunctList (now (a .image)) (a .n) (a .from) (l .locks) (key (l .last)) (l .at) (l .i) (l .inv) (c .before .before .before .before .before .before .before .loop-test .taken) (c .before .before .before .before .step .given .0 .0) (c .before .before .before .before .before .before .record-at .result .at)
@@ -99,7 +99,7 @@ no-defuncts-requires-2 c κs = search needs
 
 -- src/read.rt:101:17
 returns-2 : tie.Need-returns-2 Inv-loop μ-loop
-returns-2 c = 
+returns-2 c =
     let a = c .before .before .before .before .before .before .before .before .before .args in
     let l = c .before .before .before .before .before .before .loop in
     c .no-defuncts2 .ensures ∙ ap ranDefuncts (sym (stops defunctList (now (a .image)) (a .n) (a .from) (l .locks) (key (l .last)) (l .at) (l .i) (l .inv) (c .before .before .before .before .before .loop-test .taken) (c .before .before .step2 .given .0 .0)
@@ -115,7 +115,7 @@ no-defuncts-requires-3 c κs = search needs
 
 -- src/read.rt:105:17
 returns-3 : tie.Need-returns-3 Inv-loop μ-loop
-returns-3 c = 
+returns-3 c =
     let a = c .before .before .before .before .before .before .before .before .args in
     absurd (not-due (now (a .image)) (c .before .before .before .before .before .loop .at) Due.Defunct (c .before .before .before .record-at .result) _ (c .before .before .before .record-at .ensures) (c .before .enum-told .given .1) (omega arith) (λ z. omega arith))
 
@@ -129,13 +129,13 @@ no-defuncts-requires-4 c κs = search needs
 
 -- src/read.rt:108:17
 returns-4 : tie.Need-returns-4 Inv-loop μ-loop
-returns-4 c = 
+returns-4 c =
     let a = c .before .before .before .before .before .before .before .before .args in
     absurd (not-due (now (a .image)) (c .before .before .before .before .before .loop .at) Due.Defunct (c .before .before .before .record-at .result) _ (c .before .before .before .record-at .ensures) (c .before .enum-told2 .given .1) (omega arith) (λ z. omega arith))
 
 -- src/read.rt:78:1
 returns-5 : tie.Need-returns-5 Inv-loop μ-loop
-returns-5 c = 
+returns-5 c =
     let a = c .before .before .before .before .args in
     let l = c .before .loop in
     let w = ends defunctList (now (a .image)) (a .n) (a .from) (l .locks) (key (l .last)) (l .at) (l .i) (l .inv) (c .loop-test .left) in

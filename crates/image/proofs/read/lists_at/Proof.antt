@@ -1,3 +1,9 @@
+use mathlib.Core.Path.{_≡_, refl, sym, _∙_, ap}
+use mathlib.Core.Bool.{Bool, true, false, not}
+use borrow.Author.Tests.{not-true, not-false}
+use denote.Ref.{now}
+use Rattle.image.specs.Image.{imaged}
+use Rattle.image.proofs.Halves.{active-failed, defunct-failed, extra, all-read}
 use borrow.Author.Needs.{needs}
 use Rattle.image.proofs.read.lists_at.Statement.{statement}
 use Rattle.image.proofs.read.lists_at.Tie as tie
@@ -30,7 +36,8 @@ refused-requires c κs = search needs
 
 -- src/read.rt:170:9
 returns : tie.Need-returns
-returns c = ?
+returns c = let a = c .before .before .before .before .before .before .before .args in
+    c .refused .ensures ∙ ap imaged (sym (active-failed (now (a .image)) (a .h) (a .at) (c .before .before .before .actives-at .result) (c .before .before .before .actives-at .ensures) (sym (c .before .before .is-done .ensures) ∙ not-true _ (c .before .if1 .taken))))
 
 -- src/read.rt:172:9
 defuncts-at-requires : tie.Need-defuncts-at-requires
@@ -46,7 +53,9 @@ refused-requires-2 c κs = search needs
 
 -- src/read.rt:175:9
 returns-2 : tie.Need-returns-2
-returns-2 c = ?
+returns-2 c = let a = c .before .before .before .before .before .before .before .before .before .before .args in
+    c .refused2 .ensures ∙ ap imaged (sym (defunct-failed (now (a .image)) (a .h) (a .at) (c .before .before .before .before .before .before .actives-at .result) (c .before .before .before .before .before .before .actives-at .ensures) (sym (c .before .before .before .before .before .is-done .ensures) ∙ not-false _ (c .before .before .before .before .if1 .left))
+    (c .before .before .before .defuncts-at .result) (c .before .before .before .defuncts-at .ensures) (sym (c .before .before .is-done2 .ensures) ∙ not-true _ (c .before .if2 .taken))))
 
 -- src/read.rt:179:9
 refused-requires-3 : tie.Need-refused-requires-3
@@ -54,11 +63,15 @@ refused-requires-3 c κs = search needs
 
 -- src/read.rt:179:9
 returns-3 : tie.Need-returns-3
-returns-3 c = ?
+returns-3 c = let a = c .before .before .before .before .before .before .before .before .before .before .before .args in
+    c .refused3 .ensures ∙ ap imaged (sym (extra (now (a .image)) (a .h) (a .at) (c .before .before .before .before .before .before .before .actives-at .result) (c .before .before .before .before .before .before .before .actives-at .ensures) (sym (c .before .before .before .before .before .before .is-done .ensures) ∙ not-false _ (c .before .before .before .before .before .if1 .left))
+    (c .before .before .before .before .defuncts-at .result) (c .before .before .before .before .defuncts-at .ensures) (sym (c .before .before .before .is-done2 .ensures) ∙ not-false _ (c .before .before .if2 .left)) (c .before .if3 .taken)))
 
 -- src/read.rt:161:1
 returns-4 : tie.Need-returns-4
-returns-4 c = ?
+returns-4 c = let a = c .before .before .before .before .before .before .before .before .before .before .before .before .args in
+    all-read (now (a .image)) (a .h) (a .at) (c .before .before .before .before .before .before .before .before .actives-at .result) (c .before .before .before .before .before .before .before .before .actives-at .ensures) (sym (c .before .before .before .before .before .before .before .is-done .ensures) ∙ not-false _ (c .before .before .before .before .before .before .if1 .left))
+    (c .before .before .before .before .before .defuncts-at .result) (c .before .before .before .before .before .defuncts-at .ensures) (sym (c .before .before .before .before .is-done2 .ensures) ∙ not-false _ (c .before .before .before .if2 .left)) (c .before .before .if3 .left)
 
 pub lists-at-spec : {M : Type 1} → statement M
 lists-at-spec =

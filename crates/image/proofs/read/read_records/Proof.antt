@@ -1,3 +1,9 @@
+use mathlib.Core.Path.{_≡_, refl, sym, _∙_, ap}
+use native.Mathlib.Omega.{arith}
+use denote.Ref.{now}
+use Rattle.image.specs.declared.reader.Due.the-variants as Due
+use Rattle.image.proofs.Running.{head-got, head-stopped, not-due}
+use Rattle.image.proofs.Halves.{head-counts, head-read, head-failed}
 use borrow.Author.Needs.{needs}
 use Rattle.image.proofs.read.read_records.Statement.{statement}
 use Rattle.image.proofs.read.read_records.Tie as tie
@@ -17,7 +23,7 @@ enum-known-step c = search needs
 
 -- src/read.rt:205:26
 lists-at-requires : tie.Need-lists-at-requires
-lists-at-requires c κs = ?
+lists-at-requires c κs = head-counts (now (c .before .before .before .before .before .args .image)) 0 _ _ (head-got (now (c .before .before .before .before .before .args .image)) 0 (c .before .before .before .record-at .result) _ (c .before .before .before .record-at .ensures) (c .before .step .given .1))
 
 -- src/read.rt:206:23
 enum-known-step-2 : tie.Need-enum-known-step-2
@@ -45,19 +51,21 @@ refused-requires-3 c κs = search needs
 
 -- src/read.rt:199:1
 returns : tie.Need-returns
-returns c = ?
+returns c = let s = now (c .before .before .before .before .before .before .args .image) in
+    c .lists-at .ensures ∙ head-read s _ _ (head-got s 0 (c .before .before .before .before .record-at .result) _ (c .before .before .before .before .record-at .ensures) (c .before .before .step .given .1))
 
 -- src/read.rt:199:1
 returns-2 : tie.Need-returns-2
-returns-2 c = ?
+returns-2 c = let s = now (c .before .before .before .before .before .before .args .image) in
+    c .refused .ensures ∙ head-failed s _ (head-stopped s 0 (c .before .before .before .before .record-at .result) _ (c .before .before .before .before .record-at .ensures) (c .before .before .step2 .given .1))
 
 -- src/read.rt:199:1
 returns-3 : tie.Need-returns-3
-returns-3 c = ?
+returns-3 c = absurd (not-due (now (c .before .before .before .before .before .args .image)) 0 Due.Head (c .before .before .before .record-at .result) _ (c .before .before .before .record-at .ensures) (c .before .enum-told .given .1) (omega arith) (λ z. omega arith))
 
 -- src/read.rt:199:1
 returns-4 : tie.Need-returns-4
-returns-4 c = ?
+returns-4 c = absurd (not-due (now (c .before .before .before .before .before .args .image)) 0 Due.Head (c .before .before .before .record-at .result) _ (c .before .before .before .record-at .ensures) (c .before .enum-told2 .given .1) (omega arith) (λ z. omega arith))
 
 pub read-records-spec : {M : Type 1} → statement M
 read-records-spec =
