@@ -1,3 +1,4 @@
 pub mod Stepping
 pub mod Running
 pub mod Halves
+pub mod Writes

@@ -4,6 +4,7 @@ use state::LockState;
 
 pub mod read;
 pub mod reader;
+pub mod write;
 
 // A spare adapter: its state, and the sequence number that is due next in the feed.
 pub struct Spare {
