@@ -4,3 +4,4 @@ pub mod Below
 pub mod Places
 pub mod Loops
 pub mod Shifts
+pub mod First

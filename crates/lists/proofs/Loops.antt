@@ -11,7 +11,7 @@ use lib.ListN.{length, getD, set, take, drop, replicate, length-append, length-t
 use lib.Seq.{slice, slice-cons, slice-empty, set-at, take-at, take-suc, length-take-le}
 use Rattle.lists.specs.Tests.{non, _or_}
 use Rattle.lists.specs.Lists.{any, filter, find}
-use Rattle.lists.proofs.Tests.{or-t, or-f}
+use Rattle.lists.proofs.Tests.{or-t, or-f, or-no}
 use Rattle.lists.specs.Places.{inPlaces, leading, Holds}
 
 -- an array of structs in a struct has its length from what owning it tells, which speaks of the list mapped
@@ -106,3 +106,14 @@ copy-more f n b l out i d x h k j e = push n b (map f (take i l)) (map f (take (
 
 pub copy-same : {A : Type 0} (n : ℕ) (b : A) (l out : List A) (i : ℕ) (d : A) → Holds n b (take i l) out i → i < n → i < length l → Holds n b (take (i + 1) l) (set out i (getD l i d)) (i + 1)
 copy-same n b l out i d h k j = push n b (take i l) (take (i + 1) l) out i (getD l i d) h k (more l i d j)
+
+-- ---- a test that nothing passes
+module _ {A : Type 0} (p : A → Bool) where
+  pub filter-none : (l : List A) → any p l ≡ false → filter p l ≡ []
+  filter-none [] e = refl
+  filter-none (x ∷ xs) e = let w = or-no (p x) (any p xs) e in rw (w .0) (filter-none xs (w .1))
+
+  -- what passes the others' test
+  pub filter-all : (q : A → Bool) → ((a : A) → p a ≡ false → q a ≡ true) → (l : List A) → any p l ≡ false → filter q l ≡ l
+  filter-all q f [] e = refl
+  filter-all q f (x ∷ xs) e = let w = or-no (p x) (any p xs) e in rw (f x (w .0)) (ap (λ (t : List A). x ∷ t) (filter-all q f xs (w .1)))

@@ -8,3 +8,5 @@ pub mod Renew
 pub mod Delete
 pub mod Replace
 pub mod Acknowledge
+pub mod Code
+pub mod Place

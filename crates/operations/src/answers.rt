@@ -3,6 +3,8 @@
 use ids::LockId;
 use state::ActiveLock;
 use state::LockState;
+ghost use mathlib.Core.Path.{_≡_};
+ghost use Rattle.operations.specs.Answers.{isDone};
 
 // insert_active, insert_vehicle, commit_replacement. The Invariant's four reasons have names of their own
 // (11.1 NotRootVehicle, 11.2 BadChild, 11.3 OtherOwner, 11.4 NotCovered); Invariant is the closing check's.
@@ -128,4 +130,11 @@ pub struct Shed {
 pub struct DefunctsExpired {
     pub told: Shed,
     pub state: LockState,
+}
+
+// Whether a check lets the next one be made.
+pub(crate) fn is_done(a: Answer) -> bool
+    ensures { λ r. ⌜ r ≡ isDone a ⌝ }
+{
+    if let Answer::Done = a { true } else { false }
 }

@@ -3,19 +3,26 @@
 use mathlib.Core.Path.{_≡_, refl, sym, ap, ap₂, _∙_, subst}
 use mathlib.Core.Bool.{Bool, true, false, cond}
 use mathlib.Core.List.{List, [], _∷_, _++_}
-use Prim.Native.Nat.{ℕ, _+_, _≤_, _<_}
+use Prim.Native.Nat.{ℕ, _+_, _*_, _≤_, _<_}
 use native.Mathlib.Omega.{arith}
-use lib.ListN.{length, take, drop, length-append}
+use lib.ListN.{length, take, drop, length-append, take-append-drop}
 use lib.Seq.{take-all, take-at, drop-at}
 use lib.Dec.{eqb}
 use borrow.Author.Tests.{eq-eqb, ne-eqb, eqb-true}
 use Rattle.lists.specs.Tests.{_and_, Yes, No}
-use Rattle.lists.proofs.Tests.{and-i, and-l, and-r, and-t, and-f, by, cond-true, cond-false}
+use Rattle.lists.proofs.Tests.{and-i, and-l, and-r, and-t, and-f, and-comm, by, cond-true, cond-false}
 use Rattle.records.specs.Numbers.{Field, size, field}
 use Rattle.records.specs.Layouts.{total, fieldsAt, pack, Fit}
-use Rattle.records.specs.Codecs.{Codec, inBody, decodeBy, encodeBy, joined}
+use Rattle.records.specs.Codecs.{Codec, inBody, decodeBy, encodeBy, joined, counted, decodeCounted}
 use Rattle.records.proofs.Numbers.{Bytes}
-use Rattle.records.proofs.Layouts.{length-pack, fields-pack, pack-fields, fields-fit, fields-append, length-fields, fit-append}
+use Rattle.records.proofs.Layouts.{length-pack, fields-in, fields-pack, pack-fields, fields-fit, fields-append, length-fields, fit-append}
+
+-- two tests that were passed: of a number, and of the numbers
+passed : {A : Type 0} (m n : ℕ) (y : Bool) (g b a : A) → (b ≡ a → ⊥) → cond (eqb m n and y) g b ≡ a → (m ≡ n) × Yes y × (g ≡ a)
+passed m n y g b a h e =
+    by (eqb m n and y) ((m ≡ n) × Yes y × (g ≡ a))
+    (λ t. (eqb-true _ _ (and-l _ y t), and-r _ y t, sym (cond-true (eqb m n and y) g b t) ∙ e))
+    (λ t. absurd (h (sym (cond-false (eqb m n and y) g b t) ∙ e)))
 
 -- what a kind shows of its codec
 pub record Lawful {R : Type 0} (c : Codec R) : Type 0 where
@@ -34,42 +41,37 @@ module _ {R A : Type 0} (c : Codec R) (good : R → A) (bad : A) where
   pub is-wrong : (s : List ℕ) → length s ≡ total (c .layout) → No (c .right (inBody c s)) → bad ≡ decodeBy c good bad s
   is-wrong s h t = sym (cond-false _ _ _ (and-t _ (c .right (inBody c s)) (eq-eqb _ _ h) ∙ t))
 
-  -- The round trip from a record.
-  pub decode-encode : Lawful c → (r : R) → Fit (c .layout) (c .numbers r) → Yes (c .right (c .numbers r)) → decodeBy c good bad (encodeBy c r) ≡ good r
-  decode-encode w r k t =
-      let e : inBody c (encodeBy c r) ≡ c .numbers r = fields-pack (c .layout) (c .numbers r) k in
-      sym (is-good (encodeBy c r) r (length-pack (c .layout) (c .numbers r) (w .count r)) (ap (c .right) e ∙ t) (sym (ap (c .made) e ∙ w .there r)))
+-- a record whose numbers fit their fields and are right
+pub record Well {R : Type 0} (c : Codec R) (r : R) : Type 0 where
+  pub fit : Fit (c .layout) (c .numbers r)
+  pub right : Yes (c .right (c .numbers r))
 
-  -- what was accepted: length and numbers are right
-  pub accepted : (s : List ℕ) (a : A) → (bad ≡ a → ⊥) → decodeBy c good bad s ≡ a
-      → (length s ≡ total (c .layout)) × Yes (c .right (inBody c s)) × (good (c .made (inBody c s)) ≡ a)
-  accepted s a h e =
-      let b : Bool = eqb (length s) (total (c .layout)) and c .right (inBody c s) in
-      by b ((length s ≡ total (c .layout)) × Yes (c .right (inBody c s)) × (good (c .made (inBody c s)) ≡ a))
-      (λ t. (eqb-true _ _ (and-l _ (c .right (inBody c s)) t), and-r _ (c .right (inBody c s)) t, sym (cond-true b _ bad t) ∙ e))
-      (λ t. absurd (h (sym (cond-false b (good (c .made (inBody c s))) bad t) ∙ e)))
+-- answers that tell records apart, and a record from a refusal
+pub record Apart {R A : Type 0} (good : R → A) (bad : A) : Type 0 where
+  pub one : (x y : R) → good x ≡ good y → x ≡ y
+  pub never : (x : R) → bad ≡ good x → ⊥
 
-  module _ (one : (x y : R) → good x ≡ good y → x ≡ y) (apart : (x : R) → bad ≡ good x → ⊥) where
-    read : (s : List ℕ) (r : R) → decodeBy c good bad s ≡ good r → (length s ≡ total (c .layout)) × Yes (c .right (inBody c s)) × (c .made (inBody c s) ≡ r)
-    read s r e = let a = accepted s (good r) (apart r) e in (a .0, a .1, one _ r (a .2))
+-- Both round trips: what is encoded decodes to itself; what was decoded encodes to the bytes it was read from, and is well.
+pub record RoundTrips {R A : Type 0} (c : Codec R) (good : R → A) (bad : A) : Type 0 where
+  pub there : (r : R) → Well c r → decodeBy c good bad (encodeBy c r) ≡ good r
+  pub back : (s : List ℕ) (r : R) → Bytes s → decodeBy c good bad s ≡ good r → (encodeBy c r ≡ s) × Well c r
 
-    -- the numbers of the record that was read are those that stand there
-    pub numbers-read : Lawful c → (s : List ℕ) (r : R) → decodeBy c good bad s ≡ good r → c .numbers r ≡ inBody c s
-    numbers-read w s r e = let a = read s r e in ap (c .numbers) (sym (a .2)) ∙ w .back s 0 (a .1)
+pub round-trips : {R A : Type 0} (c : Codec R) (good : R → A) (bad : A) → Lawful c → Apart good bad → RoundTrips c good bad
+round-trips {R} {A} c good bad w p = record { there = there; back = back }
+  where
+    there : (r : R) → Well c r → decodeBy c good bad (encodeBy c r) ≡ good r
+    there r k =
+        let e : inBody c (encodeBy c r) ≡ c .numbers r = fields-pack (c .layout) (c .numbers r) (k .fit) in
+        sym (is-good c good bad (encodeBy c r) r (length-pack (c .layout) (c .numbers r) (w .count r)) (ap (c .right) e ∙ k .right) (sym (ap (c .made) e ∙ w .there r)))
 
-    -- The round trip from bytes.
-    pub encode-decode : Lawful c → (s : List ℕ) (r : R) → Bytes s → decodeBy c good bad s ≡ good r → encodeBy c r ≡ s
-    encode-decode w s r k e =
-        let n : length s ≡ total (c .layout) = read s r e .0 in
-        ap (pack (c .layout)) (numbers-read w s r e) ∙ pack-fields (c .layout) s 0 k (omega arith) ∙ take-all (total (c .layout)) s (omega arith)
-
-    -- so the first round trip holds of whatever was read
-    pub read-fits : Lawful c → (s : List ℕ) (r : R) → Bytes s → decodeBy c good bad s ≡ good r → Fit (c .layout) (c .numbers r) × Yes (c .right (c .numbers r))
-    read-fits w s r k e =
-        let q = numbers-read w s r e in
-        let a = read s r e in
+    back : (s : List ℕ) (r : R) → Bytes s → decodeBy c good bad s ≡ good r → (encodeBy c r ≡ s) × Well c r
+    back s r k e =
+        let a = passed _ _ _ _ bad (good r) (p .never r) e in
         let n : length s ≡ total (c .layout) = a .0 in
-        (subst (Fit (c .layout)) (sym q) (fields-fit (c .layout) s 0 k (omega arith)), ap (c .right) q ∙ a .1)
+        let v : c .numbers r ≡ inBody c s = ap (c .numbers) (sym (p .one _ r (a .2))) ∙ w .back s 0 (a .1) in (
+          ap (pack (c .layout)) v ∙ pack-fields (c .layout) s 0 k (omega arith) ∙ take-all (total (c .layout)) s (omega arith),
+          record { fit = subst (Fit (c .layout)) (sym v) (fields-fit (c .layout) s 0 k (omega arith)); right = ap (c .right) v ∙ a .1 },
+        )
 
 -- ---- two bodies, one after the other
 module _ {A B R : Type 0} (a : Codec A) (b : Codec B) (make : A → B → R) (first : R → A) (second : R → B) where
@@ -106,3 +108,47 @@ module _ {A B R : Type 0} (a : Codec A) (b : Codec B) (make : A → B → R) (fi
               ∙ ap₂ (λ (x y : List ℕ). x ++ y) (w .back s at ta) (v .back s (at + total (a .layout)) tb)
               ∙ sym (fields-append (a .layout) (b .layout) s at);
         }
+
+-- ---- a body that ends in a count, with 16 bytes for each id after it
+module _ {R A : Type 0} (c : Codec R) (good : R → A) (bad : A) (s : List ℕ) where
+  pub is-miscounted : (length s ≡ total (counted c .layout) + counted c .made (inBody (counted c) s) .1 * 16 → ⊥) → bad ≡ decodeCounted c good bad s
+  is-miscounted h = sym (cond-false _ _ _ (and-f _ (counted c .right (inBody (counted c) s)) (ne-eqb _ _ h)))
+
+  pub is-counted : (r : R) → length s ≡ total (counted c .layout) + counted c .made (inBody (counted c) s) .1 * 16
+      → Yes (counted c .right (inBody (counted c) s)) → r ≡ counted c .made (inBody (counted c) s) .0 → good r ≡ decodeCounted c good bad s
+  is-counted r h t e = ap good e ∙ sym (cond-true _ _ _ (and-i _ _ (eq-eqb _ _ h) t))
+
+  pub is-wrong-counted : No (counted c .right (inBody (counted c) s)) → bad ≡ decodeCounted c good bad s
+  is-wrong-counted t = sym (cond-false _ _ _ (and-comm _ _ ∙ and-f (counted c .right (inBody (counted c) s)) _ t))
+
+-- Both round trips of such a body: the record with its count, then the bytes of the ids.
+pub record CountedTrips {R A : Type 0} (c : Codec R) (good : R → A) (bad : A) : Type 0 where
+  pub there : (r : R) (n : ℕ) (ids : List ℕ) → Well (counted c) (r, n) → length ids ≡ n * 16 → decodeCounted c good bad (encodeBy (counted c) (r, n) ++ ids) ≡ good r
+  pub back : (s : List ℕ) (r : R) → Bytes s → decodeCounted c good bad s ≡ good r
+      → (n : ℕ) × (encodeBy (counted c) (r, n) ++ drop (total (counted c .layout)) s ≡ s) × (length s ≡ total (counted c .layout) + n * 16)
+
+pub counted-trips : {R A : Type 0} (c : Codec R) (good : R → A) (bad : A) → Lawful (counted c) → Apart good bad → CountedTrips c good bad
+counted-trips {R} {A} c good bad w p = record { there = there; back = back }
+  where
+    there : (r : R) (n : ℕ) (ids : List ℕ) → Well (counted c) (r, n) → length ids ≡ n * 16 → decodeCounted c good bad (encodeBy (counted c) (r, n) ++ ids) ≡ good r
+    there r n ids k m =
+        let b : List ℕ = encodeBy (counted c) (r, n) in
+        let e : inBody (counted c) (b ++ ids) ≡ counted c .numbers (r, n) = fields-in (counted c .layout) (counted c .numbers (r, n)) [] ids 0 (k .fit) refl in
+        let q : counted c .made (inBody (counted c) (b ++ ids)) ≡ (r, n) = ap (counted c .made) e ∙ w .there (r, n) in
+        let l : length (b ++ ids) ≡ total (counted c .layout) + n * 16 =
+        length-append b ids ∙ ap₂ _+_ (length-pack (counted c .layout) (counted c .numbers (r, n)) (w .count (r, n))) m in
+        sym (is-counted c good bad (b ++ ids) r (l ∙ ap (λ (x : R × ℕ). total (counted c .layout) + x .1 * 16) (sym q)) (ap (counted c .right) e ∙ k .right) (ap (λ (x : R × ℕ). x .0) (sym q)))
+
+    back : (s : List ℕ) (r : R) → Bytes s → decodeCounted c good bad s ≡ good r
+        → (n : ℕ) × (encodeBy (counted c) (r, n) ++ drop (total (counted c .layout)) s ≡ s) × (length s ≡ total (counted c .layout) + n * 16)
+    back s r k e =
+        let a = passed _ _ _ _ bad (good r) (p .never r) e in
+        let q = counted c .made (inBody (counted c) s) in
+        let n : length s ≡ total (counted c .layout) + q .1 * 16 = a .0 in
+        let h : 0 + total (counted c .layout) ≤ length s = omega (arith, n) in (
+          q .1,
+          ap (λ (x : R). encodeBy (counted c) (x, q .1) ++ drop (total (counted c .layout)) s) (sym (p .one _ r (a .2)))
+              ∙ ap (λ (l : List ℕ). l ++ drop (total (counted c .layout)) s) (ap (pack (counted c .layout)) (w .back s 0 (a .1)) ∙ pack-fields (counted c .layout) s 0 k h)
+              ∙ take-append-drop (total (counted c .layout)) s,
+          n,
+        )

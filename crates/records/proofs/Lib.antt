@@ -6,3 +6,7 @@ pub mod Table
 pub mod Framing
 pub mod Wire
 pub mod Storing
+pub mod Feeds
+pub mod Trips
+pub mod Sets
+pub mod Examples

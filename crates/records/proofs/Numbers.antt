@@ -12,7 +12,7 @@ use lib.Seq.{set-split, append-snoc, take-add, drop-drop, take-at, drop-at, drop
 use Rattle.records.specs.Numbers.{num, digits, part, splice, Field, little, big, size, valueOf, bytesOf, field}
 
 -- every element is a byte
-pub Bytes : List ℕ → Type 0
+unfoldable pub Bytes : List ℕ → Type 0
 Bytes [] = Unit {0}
 Bytes (x ∷ xs) = (x < 256) × Bytes xs
 

@@ -7,10 +7,13 @@ use native.Mathlib.Omega.{arith}
 use lib.ListN.{getD}
 use lib.Dec.{eqb, leb}
 use borrow.Author.Tests.{eqb-true, eqb-false, leb-true}
-use Rattle.lists.specs.Tests.{_and_, _imp_, Yes, No}
-use Rattle.lists.proofs.Tests.{and-code, and-l, and-r, imp-e, by}
+use Rattle.lists.specs.Tests.{_and_, _or_, _imp_, Yes, No}
+use Rattle.lists.proofs.Tests.{and-code, and-i, and-l, and-r, and-t, imp-e, by}
 use Rattle.state.specs.declared.ScopeKey.{ScopeKey}
 use Rattle.state.specs.declared.ScopeKey.the-variants.{Vehicle, Ecu, FunctionalGroup}
+use Rattle.state.specs.declared.Lock.{Lock}
+use Rattle.state.specs.declared.ActiveLock.{ActiveLock}
+use Rattle.state.specs.declared.DefunctLock.{DefunctLock}
 use Rattle.records.specs.declared.bodies.Head.{Head}
 use Rattle.records.specs.Layouts.{fieldsAt}
 use Rattle.records.specs.Codecs.{Codec, inBody}
@@ -47,7 +50,7 @@ pub head-right : (s : List ℕ) (h : Head) → h ≡ head .made (inBody head s) 
 head-right s h e = sym (ap (λ (x : Head). leb (x .actives) 64 && leb (x .defuncts) 128) e ∙ and-code _ _)
 
 -- ---- flags and scopes, there and back
-flag-there : (b : Bool) → eqb (flag b) 1 ≡ b
+pub flag-there : (b : Bool) → eqb (flag b) 1 ≡ b
 flag-there true = refl
 flag-there false = refl
 
@@ -55,7 +58,7 @@ unset-there : (b : Bool) → eqb (flag (not b)) 0 ≡ b
 unset-there true = refl
 unset-there false = refl
 
-flag-back : (x : ℕ) → x ≤ 1 → flag (eqb x 1) ≡ x
+pub flag-back : (x : ℕ) → x ≤ 1 → flag (eqb x 1) ≡ x
 flag-back x h = by (eqb x 1) (flag (eqb x 1) ≡ x)
     (λ t. ap flag t ∙ sym (eqb-true x 1 t))
     (λ t. ap flag t ∙ (let z : 0 ≡ x = omega (arith, eqb-false x 1 t) in z))
@@ -132,3 +135,40 @@ defunct-lawful = lawful lockStart defunctEnd defunctWith (λ d. d .lock) defunct
 
 pub head-lawful : Lawful head
 head-lawful = record { count = λ h. refl; there = λ h. refl; back = λ s at t. refl }
+
+-- ---- of a lock's own numbers, only what does not apply can be wrong
+scope-fine : (k : ScopeKey) → Yes (scopeRight (scopeKind k) (scopeNumber k))
+unfolding scopeRight _and_ _imp_
+scope-fine Vehicle = refl
+scope-fine (Ecu n) = refl
+scope-fine (FunctionalGroup n) = refl
+
+flag-fine : (b : Bool) → Yes (leb (flag b) 1)
+flag-fine true = refl
+flag-fine false = refl
+
+set-neat : (b : Bool) (w0 w1 w2 w3 : ℕ) → setRight (flag (not b)) w0 w1 w2 w3 ≡ (b imp eqb w0 0 and eqb w1 0 and eqb w2 0 and eqb w3 0)
+unfolding setRight _and_ _imp_
+set-neat true w0 w1 w2 w3 = refl
+set-neat false w0 w1 w2 w3 = refl
+
+parent-neat : (b : Bool) (hi lo : ℕ) → parentRight (flag b) hi lo ≡ (b or (eqb hi 0 and eqb lo 0))
+unfolding parentRight _and_ _imp_ _or_
+parent-neat true hi lo = refl
+parent-neat false hi lo = refl
+
+-- the set of a whole vehicle
+pub lock-neat : (l : Lock)
+    → lockStart .right (lockStart .numbers l) ≡ (l .coverage .whole imp eqb (l .coverage .w0) 0 and eqb (l .coverage .w1) 0 and eqb (l .coverage .w2) 0 and eqb (l .coverage .w3) 0)
+lock-neat l =
+    ap (λ (b : Bool). b and setRight (flag (not (l .coverage .whole))) (l .coverage .w0) (l .coverage .w1) (l .coverage .w2) (l .coverage .w3))
+    (and-i _ _ (scope-fine (l .scope)) (flag-fine (l .exclusive)))
+    ∙ and-t true _ refl ∙ set-neat (l .coverage .whole) _ _ _ _
+
+-- and the parent of a lock that has none
+pub active-neat : (a : ActiveLock)
+    → active .right (active .numbers a) ≡ (lockStart .right (lockStart .numbers (a .lock)) and (a .child or (eqb (a .parent .hi) 0 and eqb (a .parent .lo) 0)))
+active-neat a = ap (λ (b : Bool). lockStart .right (lockStart .numbers (a .lock)) and b) (parent-neat (a .child) (a .parent .hi) (a .parent .lo))
+
+pub defunct-neat : (d : DefunctLock) → defunct .right (defunct .numbers d) ≡ lockStart .right (lockStart .numbers (d .lock))
+defunct-neat d = and-true _

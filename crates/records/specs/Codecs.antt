@@ -1,11 +1,11 @@
 -- A record's body as bytes. Assumes nothing.
-use Prim.Native.Nat.{ℕ}
-use mathlib.Core.Bool.{Bool, cond}
-use mathlib.Core.List.{List, _++_}
-use lib.ListN.{length, take, drop}
+use Prim.Native.Nat.{ℕ, _+_, _*_}
+use mathlib.Core.Bool.{Bool, true, cond}
+use mathlib.Core.List.{List, [], _∷_, _++_}
+use lib.ListN.{length, getD, take, drop}
 use lib.Dec.{eqb}
 use Rattle.lists.specs.Tests.{_and_}
-use Rattle.records.specs.Numbers.{Field}
+use Rattle.records.specs.Numbers.{Field, little}
 use Rattle.records.specs.Layouts.{total, fieldsAt, pack, emit}
 
 -- the fields of a body; the record that their numbers make; a record's numbers; which numbers are right
@@ -39,3 +39,20 @@ joined a b make first second =
       numbers = λ r. a .numbers (first r) ++ b .numbers (second r);
       right = λ v. a .right (take (length (a .layout)) v) and b .right (drop (length (a .layout)) v);
     }
+
+-- one number of n bytes, whatever it is
+abbrev pub number : ℕ → Codec ℕ
+number n = record { layout = little n ∷ []; made = λ v. getD v 0 0; numbers = λ x. x ∷ []; right = λ v. true }
+
+abbrev pub pair : {A B : Type 0} → A → B → A × B
+pair a b = (a, b)
+
+-- c, then a count of ids (u16)
+abbrev pub counted : {R : Type 0} → Codec R → Codec (R × ℕ)
+counted c = joined c (number 2) pair (λ p. p .0) (λ p. p .1)
+
+-- the answer to a body that is one of c, a count, and 16 bytes for each id
+abbrev pub decodeCounted : {R A : Type 0} → Codec R → (R → A) → A → List ℕ → A
+decodeCounted c good bad s =
+    let v = inBody (counted c) s in
+    cond (eqb (length s) (total (counted c .layout) + counted c .made v .1 * 16) and counted c .right v) (good (counted c .made v .0)) bad

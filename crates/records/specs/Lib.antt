@@ -4,3 +4,4 @@ pub mod Codecs
 pub mod Table
 pub mod Framing
 pub mod Wire
+pub mod Feeds

@@ -4,4 +4,5 @@ pub mod bodies;
 pub mod fields;
 pub mod frame;
 pub mod kinds;
+pub mod requests;
 pub mod writing;

@@ -1,0 +1,144 @@
+use mathlib.Core.Path.{_≡_, sym, _∙_}
+use mathlib.Core.Bool.{true}
+use Prim.Native.Nat.{_<_, _^_}
+use lib.ListN.{getD}
+use native.Mathlib.Omega.{arith}
+use Rattle.lists.specs.Lists.{ascending}
+use Rattle.lists.proofs.Tests.{and-l}
+use Rattle.lists.proofs.Loops.{length-of-mapped}
+use Rattle.state.specs.Locks.{akey, blankActive}
+use Rattle.state.specs.Model.{modelOf, Tidy}
+use Rattle.rules.specs.declared.Verdict.the-variants.{Sound}
+use Rattle.rules.specs.Rules.{brokenRule, inOrder}
+use Rattle.rules.proofs.Sound.{tidy-of-sound, facts-of-state}
+use Rattle.lookups.proofs.Verdicts.{on-broken}
+use Rattle.operations.specs.Renew.{renewOn}
+use Rattle.operations.proofs.Renewing as laws
+use borrow.Author.Needs.{needs}
+use Rattle.operations.proofs.renew.renew.Statement.{statement}
+use Rattle.operations.proofs.renew.renew.Tie as tie
+use Rattle.operations.proofs.renew.renew.Reads as reads
+use Rattle.operations.proofs.renew.renew.Lts as lts
+use Rattle.operations.proofs.renew.close.Reads as close-reads
+use Rattle.operations.proofs.renew.extend.Reads as extend-reads
+use Rattle.operations.proofs.renew.judge.Reads as judge-reads
+use Rattle.operations.proofs.renew.place_of.Reads as place-of-reads
+use Rattle.rules.proofs.broken.Reads as broken-reads
+
+-- what the test of the state told, and the place that was found
+tested : (c : tie.After-enum-told) → brokenRule (c .before .before .before .args .t1) ≡ Sound
+tested c = sym (c .before .before .broken .ensures) ∙ c .enum-told .given .1
+
+tidy : (c : tie.After-enum-told) → Tidy (c .before .before .before .args .t1)
+tidy c = tidy-of-sound (c .before .before .before .args .t1) (search (needs, length-of-mapped)) (search (needs, length-of-mapped)) (tested c)
+
+order : (c : tie.After-enum-told) → ascending akey (modelOf (c .before .before .before .args .t1) .active) ≡ true
+unfolding inOrder
+order c = and-l _ _ (facts-of-state _ (tested c) .order)
+
+index : (c : tie.Else1) → c .before .place-of .result < 64
+index c = omega (arith, tidy (c .before .before) .active)
+
+last-fits : (c : tie.Start) → c .args .t1 .revision < 2 ^ 64
+last-fits c = omega arith
+
+-- src/renew.rt:87:9
+broken-requires : tie.Need-broken-requires
+broken-requires c κs = search needs
+
+-- src/renew.rt:88:28
+enum-known-v : tie.Need-enum-known-v
+enum-known-v c = search needs
+
+-- src/renew.rt:89:9
+returns : tie.Need-returns
+unfolding renewOn
+returns c = on-broken _ _ _ _ _ (c .before .before .before .broken .ensures) (c .before .v .given .1)
+
+enum-told : tie.Need-enum-told
+enum-told c = search needs
+
+-- src/renew.rt:94:9
+place-of-requires : tie.Need-place-of-requires
+place-of-requires c κs = tidy c .active
+
+-- src/renew.rt:96:9
+returns-2 : tie.Need-returns-2
+returns-2 c = laws.absent _ _ _ _ _ _ (tested (c .before .before)) (tidy (c .before .before)) _ (c .before .place-of .ensures) (c .if1 .taken)
+
+-- src/renew.rt:101:13
+mul-a : tie.Need-mul-a
+mul-a c = omega (arith, index c)
+
+-- src/renew.rt:101:13
+element-copy-out-a : tie.Need-element-copy-out-a
+element-copy-out-a c = index c
+
+-- src/renew.rt:102:9
+judge-requires : tie.Need-judge-requires
+judge-requires c κs = search needs
+
+enum-told-2 : tie.Need-enum-told-2
+enum-told-2 c = search needs
+
+-- src/renew.rt:104:9
+returns-3 : tie.Need-returns-3
+unfolding blankActive
+returns-3 c =
+    let f = c .before .before .before in
+    let b = f .before .before in
+    laws.refused _ _ _ _ _ _ (tested b) (tidy b) _ (f .before .place-of .ensures) (f .if1 .left) _ (c .before .judge .ensures) (laws.kept _ (c .match2 .keys2) _ _)
+
+-- src/renew.rt:106:9
+extend-requires : tie.Need-extend-requires
+extend-requires c κs = search needs
+
+-- src/renew.rt:108:5
+mul-x : tie.Need-mul-x
+mul-x c = omega (arith, index (c .before .before .before .before .before))
+
+-- src/renew.rt:108:5
+element-set-from-x : tie.Need-element-set-from-x
+element-set-from-x c = index (c .before .before .before .before .before)
+
+-- src/renew.rt:109:21
+add-next : tie.Need-add-next
+unfolding blankActive
+add-next c =
+    let p = c .before .before .before .before .before .before .before .before .before .before in
+    let a = getD (p .args .t1 .active) (c .before .before .before .before .before .before .place-of .result) blankActive in
+    omega (arith, laws.can-rise (p .args .t1 .revision) (p .args .expires) (p .args .clock) a (sym (c .before .before .before .judge .ensures) ∙ c .before .enum-told2 .given .1), last-fits p)
+
+-- src/renew.rt:110:5
+close-requires : tie.Need-close-requires
+close-requires c κs = search needs
+
+-- src/renew.rt:77:1
+returns-4 : tie.Need-returns-4
+unfolding blankActive
+returns-4 c =
+    let f = c .before .before .before .before .before .before in
+    let b = f .before .before in
+    c .close .ensures ∙ laws.closing _ _ _ _ _ _ (tested b) (tidy b) _ (f .before .place-of .ensures) (f .if1 .left) _ (c .before .before .before .before .judge .ensures) (c .before .before .enum-told2 .given .1) (order b) _ (c .before .extend .ensures)
+
+pub renew-spec : {M : Type 1} → statement M
+renew-spec =
+    tie.close
+    (tie.spec
+    broken-requires
+    enum-known-v
+    returns
+    enum-told
+    place-of-requires
+    returns-2
+    mul-a
+    element-copy-out-a
+    judge-requires
+    enum-told-2
+    returns-3
+    extend-requires
+    mul-x
+    element-set-from-x
+    add-next
+    close-requires
+    returns-4)

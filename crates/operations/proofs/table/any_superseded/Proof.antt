@@ -1,0 +1,78 @@
+use mathlib.Core.Path.{_≡_, refl, sym, ap, _∙_}
+use mathlib.Core.Bool.{Bool, true, false, not}
+use mathlib.Core.List.{List}
+use Prim.Native.Nat.{ℕ, _≤_, _<_, _+_, _-_}
+use native.Mathlib.Omega.{arith}
+use borrow.Author.Needs.{needs}
+use lib.ListN.{length, getD, take, replicate}
+use lib.Seq.{slice}
+use Rattle.lists.proofs.Loops.{length-of-mapped}
+use Rattle.operations.specs.Table.{superseded}
+use Rattle.lists.specs.Lists.{any}
+use Rattle.lists.proofs.Loops.{any-yes, any-no, any-end}
+use Rattle.operations.proofs.table.any_superseded.Statement.{statement}
+use Rattle.operations.proofs.table.any_superseded.Tie as tie
+use Rattle.operations.proofs.table.any_superseded.Reads as reads
+use Rattle.operations.proofs.table.any_superseded.Lts as lts
+use Rattle.operations.proofs.table.is_superseded.Reads as is-superseded-reads
+
+abbrev Inv-loop : tie.InvT-loop
+Inv-loop n x l i₀ i = (i ≤ n) × (any (superseded x) (slice i n l) ≡ any (superseded x) (take n l))
+
+abbrev μ-loop : tie.MeasureT-loop
+μ-loop n x l i₀ i = n - i
+
+long : (c : tie.Start Inv-loop μ-loop) → c .args .n ≤ length (c .args .t1)
+long c = let e : length (c .args .t1) ≡ 128 = search (needs, length-of-mapped) in omega arith
+
+-- src/table.rt:162:5
+loop-holds : tie.Need-loop-holds Inv-loop μ-loop
+loop-holds c = (omega arith, refl)
+
+-- src/table.rt:163:17
+mul-d : tie.Need-mul-d Inv-loop μ-loop
+mul-d c = omega arith
+
+-- src/table.rt:163:17
+array-copy-out-d : tie.Need-array-copy-out-d Inv-loop μ-loop
+array-copy-out-d c = omega arith
+
+-- src/table.rt:164:9
+add-i : tie.Need-add-i Inv-loop μ-loop
+add-i c = omega arith
+
+-- src/table.rt:165:12
+is-superseded-requires : tie.Need-is-superseded-requires Inv-loop μ-loop
+is-superseded-requires c κs = tt
+
+-- src/table.rt:166:13
+returns : tie.Need-returns Inv-loop μ-loop
+returns c = let b = c .before .before .before in sym (any-yes _ _ _ _ _ (b .loop-test .taken) (long (b .before .before)) (sym (c .before .is-superseded .ensures) ∙ c .if1 .taken)) ∙ b .before .loop .inv .1
+
+-- src/table.rt:162:5
+loop-less : tie.Need-loop-less Inv-loop μ-loop
+loop-less c = omega arith
+
+-- src/table.rt:162:5
+loop-again : tie.Need-loop-again Inv-loop μ-loop
+loop-again c = let b = c .before .before .before in (omega arith, sym (any-no _ _ _ _ _ (b .loop-test .taken) (long (b .before .before)) (sym (c .before .is-superseded .ensures) ∙ c .if1 .left)) ∙ b .before .loop .inv .1)
+
+-- src/table.rt:157:1
+returns-2 : tie.Need-returns-2 Inv-loop μ-loop
+returns-2 c = sym (any-end _ _ _ _ (c .before .loop .inv .0) (c .loop-test .left)) ∙ c .before .loop .inv .1
+
+pub any-superseded-spec : {M : Type 1} → statement M
+any-superseded-spec =
+    tie.close
+    (tie.spec
+    Inv-loop
+    μ-loop
+    loop-holds
+    mul-d
+    array-copy-out-d
+    add-i
+    is-superseded-requires
+    returns
+    loop-less
+    loop-again
+    returns-2)

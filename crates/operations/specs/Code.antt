@@ -1,0 +1,91 @@
+-- Helpers of the code alone: the lists in their places, as the code passes them from function to function.
+use mathlib.Core.Bool.{Bool, true, false, cond}
+use mathlib.Core.List.{List, [], _∷_, map}
+use mathlib.Core.Path.{_≡_}
+use Prim.Native.Nat.{ℕ, zero, suc, _+_, _≤_}
+use lib.Dec.{ltb}
+use lib.ListN.{length, getD, take}
+use Rattle.lists.specs.Tests.{non, Yes}
+use Rattle.lists.specs.Lists.{ascending}
+use Rattle.lists.specs.Places.{inPlaces, leading, opened}
+use Rattle.ids.specs.declared.LockId.{LockId}
+use Rattle.ids.specs.Order.{key}
+use Rattle.state.specs.declared.ActiveLock.{ActiveLock}
+use Rattle.state.specs.declared.DefunctLock.{DefunctLock}
+use Rattle.state.specs.Locks.{hasId, dkey, blankActive, blankDefunct}
+use Rattle.lookups.specs.Reads.{narrow}
+use Rattle.operations.specs.declared.trees.Split.{Split}
+use Rattle.operations.specs.declared.table.Table.{Table}
+use Rattle.operations.specs.Trees.{childOf, Parts}
+use Rattle.operations.specs.Table.{redirect}
+
+module _ {A : Type 0} where
+  -- what is marked, and what is left; what stands past the marks is left
+  abbrev pub flagged : List Bool → List A → List A
+  flagged [] l = []
+  flagged (b ∷ bs) [] = []
+  flagged (b ∷ bs) (x ∷ xs) = cond b (x ∷ flagged bs xs) (flagged bs xs)
+
+  abbrev pub unflagged : List Bool → List A → List A
+  unflagged [] l = l
+  unflagged (b ∷ bs) [] = []
+  unflagged (b ∷ bs) (x ∷ xs) = cond b (unflagged bs xs) (x ∷ unflagged bs xs)
+
+  -- where what has the key belongs
+  unfoldable pub placeOf : (A → ℕ) → LockId → List A → ℕ
+  placeOf k i l = leading (λ y. non (ltb (key i) (k y))) l 0
+
+-- the n active locks stand in the first of 64 places, blanks after them
+pub record Placed (l : List ActiveLock) (n : ℕ) : Type 0 where
+  pub room : n ≤ 64
+  pub same : inPlaces 64 blankActive (take n l) ≡ l
+
+-- ---- trees
+-- the three steps of a tree's removal by their numbers
+unfoldable pub picks : ℕ → ActiveLock → ActiveLock → Bool
+picks zero r a = childOf r a
+picks (suc zero) r a = narrow r a
+picks (suc (suc n)) r a = hasId (r .lock .id) a
+
+abbrev pub partsOf : Split → Parts
+partsOf s = record { kept = take (s .left) (s .kept); gone = take (s .gone) (s .removed) }
+
+abbrev pub splitOf : Parts → Split
+splitOf m = record { left = length (m .kept); kept = inPlaces 64 blankActive (m .kept); gone = length (m .gone); removed = inPlaces 64 blankActive (m .gone) }
+
+-- blanks after both lists, which together fit
+pub record Cut (s : Split) : Type 0 where
+  pub room : s .left + s .gone ≤ 64
+  pub same : splitOf (partsOf s) ≡ s
+
+-- ---- the table of defunct entries
+abbrev pub entriesOf : Table → List DefunctLock
+entriesOf t = take (t .count) (t .entries)
+
+abbrev pub tableOf : List DefunctLock → Table
+tableOf l = record { count = length l; entries = inPlaces 192 blankDefunct l }
+
+-- blanks after the entries
+pub record Laid (t : Table) : Type 0 where
+  pub room : t .count ≤ 192
+  pub same : tableOf (entriesOf t) ≡ t
+
+-- and in order
+pub record Ranked (t : Table) : Type 0 where
+  pub laid : Laid t
+  pub order : Yes (ascending dkey (entriesOf t))
+
+-- an entry that points at e takes over its target and holder
+abbrev pub tookOver : DefunctLock → DefunctLock → DefunctLock
+tookOver e d = record { lock = d .lock; target = e .target; expires = d .expires; broken = d .broken; breaker = d .breaker; holder = e .holder }
+
+-- of the first i entries those that are marked have handed their target and holder on; none is taken out yet
+abbrev pub handStep : Bool → ℕ → List DefunctLock → List DefunctLock
+handStep b i m = cond b (map (redirect (getD m i blankDefunct)) m) m
+
+unfoldable pub handOn : List Bool → ℕ → List DefunctLock → List DefunctLock
+handOn goes zero l = l
+handOn goes (suc i) l = handStep (getD goes i false) i (handOn goes i l)
+
+abbrev pub putAt : Table → ℕ → DefunctLock → Table
+putAt t k d = record { count = t .count + 1; entries = opened (t .entries) k (t .count) d }

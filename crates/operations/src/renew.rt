@@ -1,0 +1,111 @@
+// Renewal of an active lock: 12, 3, 9, 10, 8.
+// SPDX-License-Identifier: Apache-2.0
+use crate::answers::Renewal;
+use crate::answers::Renewed;
+use ids::LockId;
+use rules::Verdict;
+use state::ActiveLock;
+use state::LockState;
+ghost use mathlib.Core.Path.{_≡_};
+ghost use Prim.Native.Nat.{_≤_, _<_};
+ghost use Rattle.state.specs.Model.{modelOf};
+ghost use Rattle.operations.specs.Place.{placeIn, judgeLock};
+ghost use Rattle.operations.specs.Renew.{extended, closedRenew, renewOn};
+
+// The place of the lock with this id; the count where there is none.
+pub(crate) fn place_of(s: LockState, id: LockId) -> usize
+    requires { ⌜ s .actives ≤ 64 ⌝ }
+    ensures { λ r. ⌜ r ≡ placeIn id (modelOf s .active) ⌝ }
+{
+    let n = s.actives;
+    let mut i: usize = 0;
+    while i < n {
+        let a = s.active[i];
+        if state::has_id(id, a) {
+            return i;
+        }
+        i += 1;
+    }
+    n
+}
+
+fn extend(a: ActiveLock, expires: u64, given: bool, metadata: u32) -> ActiveLock
+    ensures { λ r. ⌜ r ≡ extended expires given metadata a ⌝ }
+{
+    let mut x = a;
+    x.expires = expires;
+    if given {
+        x.lock.metadata = metadata;
+    }
+    x
+}
+
+// 9, 10, 8, of the lock that was found.
+fn judge(a: ActiveLock, revision: u64, expires: u64, clock: u64) -> Renewal
+    ensures { λ r. ⌜ r ≡ judgeLock revision expires clock a ⌝ }
+{
+    if a.expires <= clock {
+        return Renewal::LockExpired;
+    }
+    if expires <= a.expires {
+        return Renewal::RenewalNotExtension;
+    }
+    if revision == 18446744073709551615 {
+        return Renewal::RevisionOverflow;
+    }
+    Renewal::Done
+}
+
+// The original's closing check: the change is undone where it breaks a rule.
+fn close(s: LockState, next: LockState) -> Renewed
+    ensures { λ r. ⌜ r ≡ closedRenew s next ⌝ }
+{
+    let v = rules::broken(next);
+    match v {
+        Verdict::Sound => Renewed {
+            told: Renewal::Done,
+            state: next,
+        },
+        Verdict::Broken(_) => Renewed {
+            told: Renewal::Invariant,
+            state: s,
+        },
+    }
+}
+
+// The lock's expires_at moves on, its metadata too where some is given.
+pub fn renew(
+    s: LockState,
+    id: LockId,
+    expires: u64,
+    clock: u64,
+    given: bool,
+    metadata: u32,
+) -> Renewed
+    ensures { λ r. ⌜ r ≡ renewOn s id expires clock given metadata ⌝ }
+{
+    let v = rules::broken(s);
+    if let Verdict::Broken(n) = v {
+        return Renewed {
+            told: Renewal::UnsoundState(n),
+            state: s,
+        };
+    }
+    let i = place_of(s, id);
+    if s.actives <= i {
+        return Renewed {
+            told: Renewal::ActiveLockNotFound(id),
+            state: s,
+        };
+    }
+    let a = s.active[i];
+    let told = judge(a, s.revision, expires, clock);
+    let Renewal::Done = told else {
+        return Renewed { told, state: s };
+    };
+    let x = extend(a, expires, given, metadata);
+    let mut next = s;
+    next.active[i] = x;
+    next.revision = s.revision + 1;
+    close(s, next)
+}

@@ -1,0 +1,274 @@
+// Defunct entries that go and that come. A replacement passes through more than 128 of them.
+// SPDX-License-Identifier: Apache-2.0
+use ids::LockId;
+use state::ActiveLock;
+use state::DefunctLock;
+ghost use mathlib.Core.List.{map};
+ghost use mathlib.Core.Path.{_≡_};
+ghost use Prim.Native.Nat.{_+_, _≤_, _<_};
+ghost use lib.ListN.{take};
+ghost use Rattle.lists.specs.Lists.{any, insertBy};
+ghost use Rattle.lists.specs.Places.{inPlaces};
+ghost use Rattle.state.specs.Locks.{dkey, blankDefunct};
+ghost use Rattle.operations.specs.Table.{removeD, removeAll, superseded, supersede, toDefunct, enterAll};
+ghost use Rattle.operations.specs.Code.{flagged, unflagged, tookOver, handOn, entriesOf, tableOf, Laid, Ranked, placeOf, putAt};
+
+// The entries in the first places, ascending by id; blanks after them.
+pub(crate) struct Table {
+    pub count: usize,
+    pub entries: [DefunctLock; 192],
+}
+
+// ---- there and back
+pub(crate) fn widened(l: [DefunctLock; 128], n: usize) -> Table
+    requires { ⌜ n ≤ 128 ⌝ }
+    ensures { λ r. ⌜ r ≡ tableOf (take n l) ⌝ }
+{
+    let b = state::blank_defunct();
+    let mut out = [b; 192];
+    let mut i: usize = 0;
+    while i < n {
+        out[i] = l[i];
+        i += 1;
+    }
+    Table {
+        count: n,
+        entries: out,
+    }
+}
+
+pub(crate) fn narrowed(t: Table) -> [DefunctLock; 128]
+    requires { ⌜ t .count ≤ 128 ⌝ }
+    ensures { λ r. ⌜ r ≡ inPlaces 128 blankDefunct (entriesOf t) ⌝ }
+{
+    let n = t.count;
+    let b = state::blank_defunct();
+    let mut out = [b; 128];
+    let mut i: usize = 0;
+    while i < n {
+        out[i] = t.entries[i];
+        i += 1;
+    }
+    out
+}
+
+// ---- entries that go
+// An entry that pointed at e.
+fn took_over(e: DefunctLock, d: DefunctLock) -> DefunctLock
+    ensures { λ r. ⌜ r ≡ tookOver e d ⌝ }
+{
+    let l = d.lock;
+    let u = e.target;
+    DefunctLock {
+        lock: l,
+        target: u,
+        expires: d.expires,
+        broken: d.broken,
+        breaker: d.breaker,
+        holder: e.holder,
+    }
+}
+
+// Each entry that goes, ascending, hands its target and holder on to those that point at it.
+fn handed_on(l: [DefunctLock; 192], n: usize, goes: [bool; 192]) -> [DefunctLock; 192]
+    requires { ⌜ n ≤ 192 ⌝ }
+    ensures { λ r. ⌜ take n r ≡ handOn goes n (take n l) ⌝ }
+{
+    let mut out = l;
+    let mut i: usize = 0;
+    while i < n {
+        let k = i;
+        i += 1;
+        if goes[k] {
+            let e = out[k];
+            let mut j: usize = 0;
+            while j < n {
+                let d = out[j];
+                let at = j;
+                j += 1;
+                if ids::same(d.target, e.lock.id) {
+                    out[at] = took_over(e, d);
+                }
+            }
+        }
+    }
+    out
+}
+
+// Those that stay are written into a fresh table.
+fn sifted(l: [DefunctLock; 192], n: usize, goes: [bool; 192]) -> Table
+    requires { ⌜ n ≤ 192 ⌝ }
+    ensures { λ r. ⌜ r ≡ tableOf (unflagged (take n goes) (take n l)) ⌝ }
+{
+    let b = state::blank_defunct();
+    let mut out = [b; 192];
+    let mut w: usize = 0;
+    let mut i: usize = 0;
+    while i < n {
+        let k = i;
+        i += 1;
+        if !goes[k] {
+            out[w] = l[k];
+            w += 1;
+        }
+    }
+    Table {
+        count: w,
+        entries: out,
+    }
+}
+
+// The marked entries go.
+pub(crate) fn shed(t: Table, goes: [bool; 192]) -> Table
+    requires { ⌜ Ranked t ⌝ }
+    ensures { λ r. ⌜ r ≡ tableOf (removeAll (flagged (take (t .count) goes) (entriesOf t)) (entriesOf t)) ⌝ }
+{
+    let l = t.entries;
+    let m = handed_on(l, t.count, goes);
+    sifted(m, t.count, goes)
+}
+
+// The entry with this id goes, where there is one.
+pub(crate) fn splice(t: Table, id: LockId) -> Table
+    requires { ⌜ Ranked t ⌝ }
+    ensures { λ r. ⌜ r ≡ tableOf (removeD id (entriesOf t)) ⌝ }
+{
+    let n = t.count;
+    let mut goes = [false; 192];
+    let mut i: usize = 0;
+    while i < n {
+        let d = t.entries[i];
+        goes[i] = state::has_id_defunct(id, d);
+        i += 1;
+    }
+    shed(t, goes)
+}
+
+pub(crate) fn is_superseded(x: ActiveLock, d: DefunctLock) -> bool
+    ensures { λ r. ⌜ r ≡ superseded x d ⌝ }
+{
+    let k = x.lock;
+    let s = k.scope;
+    let c = k.coverage;
+    (d.lock.subject == k.subject) & lookups::covers_defunct(s, c, d)
+}
+
+// Whether the new lock x covers one of the first n entries.
+pub(crate) fn any_superseded(l: [DefunctLock; 128], n: usize, x: ActiveLock) -> bool
+    requires { ⌜ n ≤ 128 ⌝ }
+    ensures { λ r. ⌜ r ≡ any (superseded x) (take n l) ⌝ }
+{
+    let mut i: usize = 0;
+    while i < n {
+        let d = l[i];
+        i += 1;
+        if is_superseded(x, d) {
+            return true;
+        }
+    }
+    false
+}
+
+// The entries that the new lock x covers go.
+pub(crate) fn superseding(t: Table, x: ActiveLock) -> Table
+    requires { ⌜ Ranked t ⌝ }
+    ensures { λ r. ⌜ r ≡ tableOf (supersede x (entriesOf t)) ⌝ }
+{
+    let n = t.count;
+    let mut goes = [false; 192];
+    let mut some = false;
+    let mut i: usize = 0;
+    while i < n {
+        let d = t.entries[i];
+        let b = is_superseded(x, d);
+        goes[i] = b;
+        some = some | b;
+        i += 1;
+    }
+    if some {
+        return shed(t, goes);
+    }
+    t
+}
+
+// ---- entries that come
+// The lock a, broken by x.
+fn to_defunct(x: ActiveLock, by: u32, at: u64, a: ActiveLock) -> DefunctLock
+    ensures { λ r. ⌜ r ≡ toDefunct x by at a ⌝ }
+{
+    let l = a.lock;
+    let i = x.lock.id;
+    DefunctLock {
+        lock: l,
+        target: i,
+        expires: a.expires,
+        broken: at,
+        breaker: by,
+        holder: x.lock.subject,
+    }
+}
+
+// Where an entry belongs: after each one that it does not come before.
+fn place_of(t: Table, id: LockId) -> usize
+    requires { ⌜ t .count ≤ 192 ⌝ }
+    ensures { λ r. ⌜ r ≡ placeOf dkey id (entriesOf t) ⌝ }
+{
+    let n = t.count;
+    let mut i: usize = 0;
+    while i < n {
+        let d = t.entries[i];
+        if ids::less(id, d.lock.id) {
+            return i;
+        }
+        i += 1;
+    }
+    n
+}
+
+// The entries from k on one place up, and d at k.
+fn open_at(mut t: Table, k: usize, d: DefunctLock) -> Table
+    requires { ⌜ (k ≤ t .count) × (t .count < 192) ⌝ }
+    ensures { λ r. ⌜ r ≡ putAt t k d ⌝ }
+{
+    let n = t.count;
+    let mut j = n;
+    while k < j {
+        let y = t.entries[j - 1];
+        t.entries[j] = y;
+        j -= 1;
+    }
+    t.entries[k] = d;
+    t.count = n + 1;
+    t
+}
+
+fn enter(t: Table, d: DefunctLock) -> Table
+    requires { ⌜ Laid t × (t .count < 192) ⌝ }
+    ensures { λ r. ⌜ r ≡ tableOf (insertBy dkey d (entriesOf t)) ⌝ }
+{
+    let k = place_of(t, d.lock.id);
+    open_at(t, k, d)
+}
+
+// The first n locks are entered as broken by x.
+pub(crate) fn enter_all(
+    t: Table,
+    locks: [ActiveLock; 64],
+    n: usize,
+    x: ActiveLock,
+    by: u32,
+    at: u64,
+) -> Table
+    requires { ⌜ Laid t × (n ≤ 64) × (t .count ≤ 128) ⌝ }
+    ensures { λ r. ⌜ r ≡ tableOf (enterAll (map (toDefunct x by at) (take n locks)) (entriesOf t)) ⌝ }
+{
+    let mut out = t;
+    let mut i: usize = 0;
+    while i < n {
+        let a = locks[i];
+        i += 1;
+        let d = to_defunct(x, by, at, a);
+        out = enter(out, d);
+    }
+    out
+}

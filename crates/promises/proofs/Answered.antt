@@ -1,0 +1,168 @@
+-- What the checks of insertions and replacement answer: each refuses by its own answer, never by NoRoom, Invariant or
+-- UnsoundState; and each operation's judgement is its checks before 13, then 13.
+-- Assumes nothing.
+use mathlib.Core.Path.{_≡_, refl, sym, ap, _∙_}
+use mathlib.Core.Bool.{Bool, true, false, cond}
+use mathlib.Core.List.{List}
+use mathlib.Core.Option.{Option, none, some}
+use Prim.Native.Nat.{ℕ}
+use lib.Dec.{eqb}
+use Rattle.lists.specs.Tests.{Yes, No}
+use Rattle.lists.specs.Lists.{find, filter}
+use Rattle.lists.proofs.Tests.{against, cond-both}
+use Rattle.ids.specs.declared.LockId.{LockId}
+use Rattle.ids.specs.Words.{lowestOf, idsOf}
+use Rattle.state.specs.declared.ActiveLock.{ActiveLock}
+use Rattle.state.specs.declared.DefunctLock.{DefunctLock}
+use Rattle.state.specs.Locks.{hasId}
+use Rattle.state.specs.Model.{Model, Limits}
+use Rattle.operations.specs.declared.answers.Answer.{Answer}
+use Rattle.operations.specs.declared.answers.Answer.the-variants.{Done, DuplicateId, DuplicateScope, ActiveLockNotFound, ParentNotFound, ParentNotVehicle, ReplacementScopeConflict, CoverageConflict, RevisionOverflow, NotRootVehicle, BadChild, OtherOwner, NotCovered, Invariant, UnsoundState, NoRoom, BadList}
+use Rattle.operations.specs.Answers.{isDone, refuseIf, andThen}
+use Rattle.operations.specs.Trees.{isListed}
+use Rattle.operations.specs.Checks.{checkList, checkId, checkScope, checkParent, checkFound, checkNesting, conflicts, checkConflict, checkClear, checkInsert, checkRevision, checkRoom, checkRoot, missing, unfitId, toldListed, checkListed, unfitChild, toldChild, checkChildren, toldRoot, checkRoots, checkHolder, checkEntry}
+use Rattle.operations.specs.Insert.{insertedIn, judgeInsert}
+use Rattle.operations.specs.Vehicle.{vehicleIn, judgeVehicle}
+use Rattle.operations.specs.Replace.{orphan, cutOf, replacedIn, judgeReplace}
+
+-- a test that fails of a and passes of b tells them apart
+pub differ : {A : Type 0} (p : A → Bool) {a b : A} → No (p a) → Yes (p b) → a ≡ b → ⊥
+differ p f t e = against f (ap p e ∙ t)
+
+-- an answer of none of the checks before 13
+abbrev pub foreign : Answer → Bool
+foreign Done = false
+foreign (DuplicateId i) = false
+foreign DuplicateScope = false
+foreign (ActiveLockNotFound i) = false
+foreign (ParentNotFound i) = false
+foreign (ParentNotVehicle i) = false
+foreign ReplacementScopeConflict = false
+foreign (CoverageConflict i) = false
+foreign RevisionOverflow = false
+foreign NotRootVehicle = false
+foreign (BadChild i) = false
+foreign (OtherOwner i j) = false
+foreign (NotCovered i j) = false
+foreign Invariant = true
+foreign (UnsoundState n) = true
+foreign NoRoom = true
+foreign BadList = false
+
+-- no check gives it
+if-not : (c : Bool) (a b : Answer) → No (foreign a) → No (foreign b) → No (foreign (cond c a b))
+if-not c a b f g = cond-both (λ (r : Answer). No (foreign r)) a b c (λ t. f) (λ t. g)
+
+refuse-not : (c : Bool) (a b : Answer) → No (foreign a) → No (foreign b) → No (foreign (refuseIf c a b))
+unfolding refuseIf
+refuse-not = if-not
+
+then-not : (a b : Answer) → No (foreign a) → No (foreign b) → No (foreign (andThen a b))
+unfolding andThen
+then-not a b f g = if-not (isDone a) b a g f
+
+nesting-not : (l : List ActiveLock) (x : ActiveLock) → No (foreign (checkNesting l x))
+unfolding checkNesting checkParent
+nesting-not l x = if-not (x .child) _ Done (go (find (hasId (x .parent)) l)) refl
+  where
+    go : (o : Option ActiveLock) → No (foreign (checkFound x o))
+    go none = refl
+    go (some p) = refuse-not _ _ _ refl (refuse-not _ _ _ refl (refuse-not _ _ _ refl refl))
+
+clear-not : (l : List ActiveLock) (x : ActiveLock) → No (foreign (checkClear l x))
+unfolding checkClear
+clear-not l x = go (find (conflicts x) l)
+  where
+    go : (o : Option ActiveLock) → No (foreign (checkConflict o))
+    go none = refl
+    go (some a) = refl
+
+insert-not : (l : List ActiveLock) (x : ActiveLock) → No (foreign (checkInsert l x))
+unfolding checkInsert checkScope
+insert-not l x = then-not _ _ (refuse-not _ _ _ refl refl) (then-not _ _ (nesting-not l x) (clear-not l x))
+
+listed-not : (l : List ActiveLock) (ws : List ℕ) → No (foreign (checkListed l ws))
+unfolding checkListed
+listed-not l ws = go (lowestOf none (filter (unfitId l) (idsOf ws)))
+  where
+    go : (o : Option LockId) → No (foreign (toldListed l o))
+    go none = refl
+    go (some i) = if-not (missing l i) _ _ refl refl
+
+children-not : (p : ActiveLock → Bool) (l : List ActiveLock) (x : ActiveLock) → No (foreign (checkChildren p l x))
+unfolding checkChildren
+children-not p l x = go (find (unfitChild p x) l)
+  where
+    go : (o : Option ActiveLock) → No (foreign (toldChild x o))
+    go none = refl
+    go (some a) = if-not (eqb (x .lock .subject) (a .lock .subject)) _ _ refl refl
+
+entry-not : (l : List ActiveLock) (t : List DefunctLock) (ws : List ℕ) (x : ActiveLock) → No (foreign (checkEntry l t ws x))
+unfolding checkEntry checkRoots checkId checkHolder
+entry-not l t ws x = then-not _ _ (go (lowestOf none (filter (missing l) (idsOf ws)))) (then-not _ _ (refuse-not _ _ _ refl refl) (refuse-not _ _ _ refl refl))
+  where
+    go : (o : Option LockId) → No (foreign (toldRoot o))
+    go none = refl
+    go (some i) = refl
+
+-- ---- chains
+then-assoc : (a b c : Answer) → andThen a (andThen b c) ≡ andThen (andThen a b) c
+unfolding andThen
+then-assoc a b c = go (isDone a) refl
+  where
+    go : (d : Bool) → isDone a ≡ d → cond d (cond (isDone b) c b) a ≡ cond (isDone (cond d b a)) c (cond d b a)
+    go true e = refl
+    go false e = rw e
+
+-- the checks before 13
+abbrev pub beforeInsert : Model → ActiveLock → Answer
+beforeInsert m x = andThen (andThen (checkId (m .active) (m .defunct) x) (checkInsert (m .active) x)) (checkRevision (m .revision))
+
+abbrev pub beforeVehicle : Model → ActiveLock → List ℕ → Answer
+beforeVehicle m x ws =
+    andThen (andThen (andThen (andThen (andThen (andThen (checkList ws) (checkRoot x)) (checkListed (m .active) ws)) (checkId (m .active) (m .defunct) x)) (checkScope (m .active) x)) (checkRevision (m .revision)))
+    (checkChildren (isListed ws) (m .active) x)
+
+abbrev pub beforeReplace : Model → List ℕ → ActiveLock → Answer
+beforeReplace m ws x =
+    andThen (andThen (andThen (andThen (checkList ws) (checkEntry (m .active) (m .defunct) ws x)) (checkInsert (cutOf m ws .kept) x)) (checkRevision (m .revision)))
+    (checkChildren (orphan x) (cutOf m ws .kept) x)
+
+module _ (m : Model) where
+  pub insert-parts : (k : Limits) (x : ActiveLock) → judgeInsert k m x ≡ andThen (beforeInsert m x) (checkRoom k (insertedIn m x))
+  unfolding judgeInsert
+  insert-parts k x = simp then-assoc
+
+  pub vehicle-parts : (k : Limits) (x : ActiveLock) (ws : List ℕ) → judgeVehicle k m x ws ≡ andThen (beforeVehicle m x ws) (checkRoom k (vehicleIn m x ws))
+  unfolding judgeVehicle
+  vehicle-parts k x ws = simp then-assoc
+
+  pub replace-parts : (k : Limits) (ws : List ℕ) (x : ActiveLock) (by at : ℕ) → judgeReplace k m ws x by at ≡ andThen (beforeReplace m ws x) (checkRoom k (replacedIn m ws x by at))
+  unfolding judgeReplace
+  replace-parts k ws x by at = simp then-assoc
+
+  id-not : (x : ActiveLock) → No (foreign (checkId (m .active) (m .defunct) x))
+  unfolding checkId
+  id-not x = refuse-not _ _ _ refl refl
+
+  revision-not : No (foreign (checkRevision (m .revision)))
+  unfolding checkRevision
+  revision-not = refuse-not _ _ _ refl refl
+
+  list-not : (ws : List ℕ) → No (foreign (checkList ws))
+  unfolding checkList
+  list-not ws = refuse-not _ _ _ refl refl
+
+  pub insert-own : (x : ActiveLock) → No (foreign (beforeInsert m x))
+  insert-own x = then-not _ _ (then-not _ _ (id-not x) (insert-not (m .active) x)) revision-not
+
+  pub vehicle-own : (x : ActiveLock) (ws : List ℕ) → No (foreign (beforeVehicle m x ws))
+  unfolding checkRoot checkScope
+  vehicle-own x ws =
+      then-not _ _ (then-not _ _ (then-not _ _ (then-not _ _ (then-not _ _ (then-not _ _ (list-not ws) (refuse-not _ _ _ refl refl)) (listed-not (m .active) ws)) (id-not x)) (refuse-not _ _ _ refl refl)) revision-not)
+      (children-not (isListed ws) (m .active) x)
+
+  pub replace-own : (ws : List ℕ) (x : ActiveLock) → No (foreign (beforeReplace m ws x))
+  replace-own ws x =
+      then-not _ _ (then-not _ _ (then-not _ _ (then-not _ _ (list-not ws) (entry-not (m .active) (m .defunct) ws x)) (insert-not (cutOf m ws .kept) x)) revision-not)
+      (children-not (orphan x) (cutOf m ws .kept) x)

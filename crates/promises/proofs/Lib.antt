@@ -1,0 +1,13 @@
+pub mod Further
+pub mod Passed
+pub mod Core
+pub mod Going
+pub mod Keeping
+pub mod Removal
+pub mod Checked
+pub mod Keeps
+pub mod Every
+pub mod Answered
+pub mod Closing
+pub mod Again
+pub mod Room

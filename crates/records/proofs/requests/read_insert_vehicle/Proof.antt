@@ -1,0 +1,102 @@
+use mathlib.Core.Path.{refl, sym, ap, ap₂, _∙_}
+use denote.Ref.{now}
+use Rattle.records.specs.declared.requests.Asked.the-variants.{BadField}
+use Rattle.records.specs.Codecs.{pair, number}
+use Rattle.records.specs.declared.requests.Request.the-variants.{InsertVehicle}
+use native.Mathlib.Omega.{arith}
+use Rattle.records.specs.Wire.{active}
+use Rattle.records.specs.Feeds.{asked, numbered}
+use Rattle.records.proofs.Codecs.{is-miscounted, is-counted, is-wrong-counted}
+use Rattle.records.proofs.Feeds.{active-part, vehicle-right}
+use borrow.Author.Needs.{needs}
+use Rattle.records.proofs.requests.read_insert_vehicle.Statement.{statement}
+use Rattle.records.proofs.requests.read_insert_vehicle.Tie as tie
+use Rattle.records.proofs.requests.read_insert_vehicle.Reads as reads
+use Rattle.records.proofs.requests.read_insert_vehicle.Lts as lts
+use Rattle.records.proofs.bodies.active_made.Reads as active-made-reads
+use Rattle.records.proofs.bodies.active_right.Reads as active-right-reads
+use Rattle.records.proofs.fields.u16_at.Reads as u16-at-reads
+use Rattle.records.proofs.fields.u32_at.Reads as u32-at-reads
+
+-- src/requests.rt:69:9
+returns : tie.Need-returns
+returns c = is-miscounted (numbered active) (asked InsertVehicle) BadField (now (c .before .before .args .s)) (λ e. omega (arith, e, c .if1 .taken))
+
+-- src/requests.rt:71:8
+sub-if2 : tie.Need-sub-if2
+sub-if2 c = search needs
+
+-- src/requests.rt:71:25
+u16-at-requires : tie.Need-u16-at-requires
+u16-at-requires c κs = search needs
+
+-- src/requests.rt:71:25
+cast-if2 : tie.Need-cast-if2
+cast-if2 c = search needs
+
+-- src/requests.rt:71:24
+mul-if2 : tie.Need-mul-if2
+mul-if2 c = search needs
+
+-- src/requests.rt:72:9
+returns-2 : tie.Need-returns-2
+returns-2 c =
+    is-miscounted (numbered active) (asked InsertVehicle) BadField (now (c .before .before .before .before .args .s))
+    (λ e. c .if2 .taken (omega (arith, e, c .before .u16-at .ensures)))
+
+-- src/requests.rt:74:16
+sub-body : tie.Need-sub-body
+sub-body c = search needs
+
+-- src/requests.rt:74:16
+part-body-start : tie.Need-part-body-start
+part-body-start c = search needs
+
+-- src/requests.rt:74:16
+part-body-end : tie.Need-part-body-end
+part-body-end c = search needs
+
+-- src/requests.rt:75:8
+active-right-requires : tie.Need-active-right-requires
+active-right-requires c κs = search needs
+
+-- src/requests.rt:76:13
+active-made-requires : tie.Need-active-made-requires
+active-made-requires c κs = search needs
+
+-- src/requests.rt:77:28
+u32-at-requires : tie.Need-u32-at-requires
+u32-at-requires c κs = search needs
+
+-- src/requests.rt:77:9
+returns-3 : tie.Need-returns-3
+returns-3 c =
+    let s = now (c .before .before .before .before .before .before .before .before .before .args .s) in
+    is-counted (numbered active) (asked InsertVehicle) BadField s _ (omega (arith, c .before .before .before .before .before .if2 .left, c .before .before .before .before .before .before .before .if1 .left, c .before .before .before .before .before .before .u16-at .ensures))
+    (vehicle-right s ∙ sym (c .before .before .before .active-right .ensures) ∙ c .before .before .if3 .taken)
+    (ap₂ pair (c .u32-at .ensures) (c .before .active-made .ensures ∙ ap (active .made) (sym (active-part s))))
+
+-- src/requests.rt:65:1
+returns-4 : tie.Need-returns-4
+returns-4 c =
+    let s = now (c .before .before .before .before .before .before .before .args .s) in
+    is-wrong-counted (numbered active) (asked InsertVehicle) BadField s (vehicle-right s ∙ sym (c .before .active-right .ensures) ∙ c .if3 .left)
+
+pub read-insert-vehicle-spec : {M : Type 1} → statement M
+read-insert-vehicle-spec =
+    tie.close
+    (tie.spec
+    returns
+    sub-if2
+    u16-at-requires
+    cast-if2
+    mul-if2
+    returns-2
+    sub-body
+    part-body-start
+    part-body-end
+    active-right-requires
+    active-made-requires
+    u32-at-requires
+    returns-3
+    returns-4)
