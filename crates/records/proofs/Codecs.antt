@@ -1,9 +1,9 @@
 -- The laws of codecs, each once for every kind of record: both round trips, what a decoder's code shows, two bodies joined.
 -- Assumes nothing.
 use mathlib.Core.Path.{_≡_, refl, sym, ap, ap₂, _∙_, subst}
-use mathlib.Core.Bool.{Bool, true, false, cond}
-use mathlib.Core.List.{List, [], _∷_, _++_}
-use Prim.Native.Nat.{ℕ, _+_, _*_, _≤_, _<_}
+use mathlib.Core.Bool.{Bool, cond}
+use mathlib.Core.List.{List, [], _++_}
+use Prim.Native.Nat.{ℕ, _+_, _*_, _≤_}
 use native.Mathlib.Omega.{arith}
 use lib.ListN.{length, take, drop, length-append, take-append-drop}
 use lib.Seq.{take-all, take-at, drop-at}
@@ -11,11 +11,10 @@ use lib.Dec.{eqb}
 use borrow.Author.Tests.{eq-eqb, ne-eqb, eqb-true}
 use Rattle.lists.specs.Tests.{_and_, Yes, No}
 use Rattle.lists.proofs.Tests.{and-i, and-l, and-r, and-t, and-f, and-comm, by, cond-true, cond-false}
-use Rattle.records.specs.Numbers.{Field, size, field}
 use Rattle.records.specs.Layouts.{total, fieldsAt, pack, Fit}
 use Rattle.records.specs.Codecs.{Codec, inBody, decodeBy, encodeBy, joined, counted, decodeCounted}
 use Rattle.records.proofs.Numbers.{Bytes}
-use Rattle.records.proofs.Layouts.{length-pack, fields-in, fields-pack, pack-fields, fields-fit, fields-append, length-fields, fit-append}
+use Rattle.records.proofs.Layouts.{length-pack, fields-in, fields-pack, pack-fields, fields-fit, fields-append, length-fields}
 
 -- two tests that were passed: of a number, and of the numbers
 passed : {A : Type 0} (m n : ℕ) (y : Bool) (g b a : A) → (b ≡ a → ⊥) → cond (eqb m n and y) g b ≡ a → (m ≡ n) × Yes y × (g ≡ a)

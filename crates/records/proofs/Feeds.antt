@@ -1,23 +1,21 @@
 -- The laws of specs/Feeds.antt: bodies after a sequence, bodies before a count, words. Assumes nothing.
-use mathlib.Core.Path.{_≡_, refl, sym, ap, ap₂, _∙_}
-use mathlib.Core.Bool.{Bool, true, false, cond}
+use mathlib.Core.Path.{_≡_, refl, sym, ap, _∙_}
+use mathlib.Core.Bool.{true}
 use mathlib.Core.List.{List, [], _∷_, _++_}
 use Prim.Native.Nat.{ℕ, zero, suc, _+_, _*_, _/_, _≤_, _<_, min}
 use native.Mathlib.Nat.{suc-mul}
 use native.Mathlib.Numerals.{add-one}
 use native.Mathlib.Omega.{arith}
 use lib.ListN.{length, getD, set, replicate}
-use lib.Dec.{eqb, leb}
+use lib.Dec.{leb}
 use borrow.Author.Tests.{leb-true, ne-eqb}
-use Rattle.lists.specs.Tests.{_and_, Yes, No}
 use Rattle.lists.specs.Places.{inPlaces}
-use Rattle.lists.proofs.Tests.{and-t, and-i, and-l}
+use Rattle.lists.proofs.Tests.{and-t, and-l}
 use Rattle.lists.proofs.Loops.{push-in}
-use Rattle.state.specs.declared.ActiveLock.{ActiveLock}
 use Rattle.records.specs.declared.requests.Asked.the-variants.{BadField}
-use Rattle.records.specs.Numbers.{Field, size, field, part, little, big}
+use Rattle.records.specs.Numbers.{Field, size, field, part, big}
 use Rattle.records.specs.Layouts.{fieldsAt}
-use Rattle.records.specs.Codecs.{Codec, inBody, joined, number, pair, counted}
+use Rattle.records.specs.Codecs.{Codec, inBody, number, pair, counted}
 use Rattle.records.specs.Wire.{active}
 use Rattle.records.specs.Feeds.{numbered, target, renewal, expiration, breaking, replacementWith, replacementRest, replacement, metadataRight, requestOf, wordsIn}
 use Rattle.records.proofs.Layouts.{fields-part}

@@ -3,13 +3,13 @@ use mathlib.Core.Path.{_≡_, refl, sym, ap, ap₂, _∙_, subst}
 use mathlib.Core.Bool.{Bool, true, false, cond}
 use mathlib.Core.List.{List, [], _∷_, _++_, append-assoc}
 use Prim.Native.Nat.{ℕ, _+_, _-_, _*_, _^_, _≤_, _<_}
-use native.Mathlib.Nat.{add-assoc, mul-le-mul-left}
+use native.Mathlib.Nat.{mul-le-mul-left}
 use native.Mathlib.Omega.{arith}
 use lib.ListN.{length, getD, length-append}
-use lib.Dec.{eqb, leb, ltb}
+use lib.Dec.{eqb, ltb}
 use borrow.Author.Tests.{eq-eqb, ne-eqb, lt-ltb, le-ltb, eqb-true, ltb-false}
 use Rattle.lists.specs.Tests.{non, Yes, No}
-use Rattle.lists.proofs.Tests.{non-t, non-f, non-yes, cond-true, cond-false}
+use Rattle.lists.proofs.Tests.{non-t, non-f, cond-true, cond-false}
 use Rattle.records.specs.declared.kinds.Kind.{Kind}
 use Rattle.records.specs.declared.kinds.Row.{Row}
 use Rattle.records.specs.declared.kinds.Row.the-variants.{Known, Unknown}
@@ -18,11 +18,11 @@ use Rattle.records.specs.declared.frame.Framed.{Framed}
 use Rattle.records.specs.declared.frame.Framed.the-variants.{Torn, BadKind, BadField, Record}
 use Rattle.records.specs.Numbers.{little, field, part, bytesOf}
 use Rattle.records.specs.Layouts.{fieldsAt, pack}
-use Rattle.records.specs.Table.{rowOf, unitsIn, possible}
+use Rattle.records.specs.Table.{rowOf, possible}
 use Rattle.records.specs.Framing.{spanOf, frameOf, frameBy, frameAt, recordOf, paperOf}
 use Rattle.records.proofs.Numbers.{Bytes, length-bytesOf, length-part, part-add}
 use Rattle.records.proofs.Layouts.{fields-in, part-in, pack-fields}
-use Rattle.records.proofs.Table.{Rule, rule, Length, length-of}
+use Rattle.records.proofs.Table.{rule, length-of}
 
 -- ---- what the code shows at each of its answers: each check adds one equation
 module _ (r : Kind) (n at left due : ℕ) where

@@ -1,14 +1,14 @@
 -- The laws of layouts, each once for every layout. Assumes nothing.
-use mathlib.Core.Path.{_≡_, refl, sym, ap, _∙_, subst}
+use mathlib.Core.Path.{_≡_, refl, sym, ap, _∙_}
 use mathlib.Core.List.{List, [], _∷_, _++_, append-assoc, append-nil}
-use Prim.Native.Nat.{ℕ, zero, suc, _+_, _^_, _≤_, _<_}
-use native.Mathlib.Nat.{add-zero, zero-add, add-assoc, le-of-suc-le-suc, not-suc-le-zero, suc-add}
+use Prim.Native.Nat.{ℕ, zero, suc, _+_, _≤_}
+use native.Mathlib.Nat.{add-zero, zero-add, add-assoc}
 use native.Mathlib.Omega.{arith}
 use lib.ListN.{length, take, drop, length-append, drop-of-length-le}
-use lib.Seq.{take-at, drop-at, take-take, drop-drop, take-nil, drop-nil}
+use lib.Seq.{take-at, drop-at, take-take, drop-drop}
 use Rattle.records.specs.Numbers.{part, splice, Field, size, valueOf, bytesOf, field}
 use Rattle.records.specs.Layouts.{total, fieldsAt, pack, emit, Fit}
-use Rattle.records.proofs.Numbers.{Bytes, bytes-part, length-part, part-add, part-splice, splice-splice, length-splice, splice-part, length-bytesOf, value-bytes, bytes-value, value-lt}
+use Rattle.records.proofs.Numbers.{Bytes, bytes-part, length-part, part-add, splice-splice, length-splice, splice-part, length-bytesOf, value-bytes, bytes-value, value-lt}
 
 -- as many numbers as fields
 pub fit-count : (fs : List Field) (vs : List ℕ) → Fit fs vs → length vs ≡ length fs

@@ -1,7 +1,7 @@
 -- Whole records stored in a slice, each law once for every kind. Assumes nothing.
-use mathlib.Core.Path.{_≡_, refl, sym, ap, _∙_}
-use mathlib.Core.Bool.{Bool, true, false, not, cond}
-use mathlib.Core.List.{List, [], _∷_, _++_, append-assoc}
+use mathlib.Core.Path.{_≡_, sym, ap, _∙_}
+use mathlib.Core.Bool.{Bool, true, false, not}
+use mathlib.Core.List.{List, _++_, append-assoc}
 use Prim.Native.Nat.{ℕ, _+_, _-_, _≤_, _<_}
 use native.Mathlib.Omega.{arith}
 use lib.ListN.{length, take, drop, length-append}
@@ -19,7 +19,7 @@ use Rattle.records.proofs.Codecs.{Lawful}
 use Rattle.records.specs.declared.kinds.Kind.{Kind}
 use Rattle.records.specs.declared.kinds.Row.the-variants.{Known}
 use Rattle.records.specs.declared.frame.Framed.the-variants.{Record}
-use Rattle.records.proofs.Table.{Rule, rule, possible-base, units-base}
+use Rattle.records.proofs.Table.{rule, possible-base, units-base}
 use Rattle.records.proofs.Framing.{length-record, frame-record, body-in}
 
 -- a test for room, negated in the code

@@ -1,7 +1,6 @@
 -- The laws of specs/Table.antt. Assumes nothing.
 use mathlib.Core.Path.{_≡_, refl, sym, ap, _∙_, subst}
 use mathlib.Core.Bool.{Bool, true, false}
-use mathlib.Core.List.{List}
 use mathlib.Core.Option.{Option, none, some}
 use Prim.Native.Nat.{ℕ, _+_, _-_, _*_, _/_, _^_, _≤_, _<_}
 use native.Mathlib.Nat.{div-zero, zero-div, le-of-lt, mul-le-mul, mul-div-right, zero-mul, mul-zero}
@@ -16,7 +15,6 @@ use Rattle.lists.proofs.Tests.{and-t, and-f, and-l, and-r, and-i, by}
 use Rattle.lists.proofs.Lists.{all→, find→, find-key}
 use Rattle.lists.proofs.Loops.{find-yes, find-no, find-end}
 use Rattle.records.specs.declared.kinds.Kind.{Kind}
-use Rattle.records.specs.declared.kinds.Row.{Row}
 use Rattle.records.specs.declared.kinds.Row.the-variants.{Known, Unknown}
 use Rattle.records.specs.Table.{rows, isKind, asRow, rowOf, unitsIn, possible}
 

@@ -1,6 +1,6 @@
 -- Both round trips of each kind of record, from the codec's law. Assumes nothing.
 use mathlib.Core.Path.{_≡_, refl}
-use mathlib.Core.List.{List, [], _∷_, map}
+use mathlib.Core.List.{[], _∷_, map}
 use Prim.Native.Nat.{ℕ, _+_}
 use native.Mathlib.Omega.{arith}
 use Rattle.records.specs.declared.bodies.HeadRead.the-variants as H

@@ -7,7 +7,7 @@ use native.Mathlib.Omega.{arith}
 use lib.ListN.{getD}
 use lib.Dec.{eqb, leb}
 use borrow.Author.Tests.{eqb-true, eqb-false, leb-true}
-use Rattle.lists.specs.Tests.{_and_, _or_, _imp_, Yes, No}
+use Rattle.lists.specs.Tests.{_and_, _or_, _imp_, Yes}
 use Rattle.lists.proofs.Tests.{and-code, and-i, and-l, and-r, and-t, imp-e, by}
 use Rattle.state.specs.declared.ScopeKey.{ScopeKey}
 use Rattle.state.specs.declared.ScopeKey.the-variants.{Vehicle, Ecu, FunctionalGroup}
@@ -16,7 +16,7 @@ use Rattle.state.specs.declared.ActiveLock.{ActiveLock}
 use Rattle.state.specs.declared.DefunctLock.{DefunctLock}
 use Rattle.records.specs.declared.bodies.Head.{Head}
 use Rattle.records.specs.Layouts.{fieldsAt}
-use Rattle.records.specs.Codecs.{Codec, inBody}
+use Rattle.records.specs.Codecs.{inBody}
 use Rattle.records.specs.Wire.{flag, scopeKind, scopeNumber, scopeOf, scopeRight, setRight, parentRight, lockStart, activeEnd, activeWith, activeRest, active, defunctEnd, defunctWith, defunctRest, defunct, head}
 use Rattle.records.proofs.Codecs.{Lawful, lawful}
 

@@ -1,6 +1,6 @@
 -- The bodies of feed records, as document 01 lays them out: "Feed bodies begin with a sequence (u32)". Assumes nothing.
 use Prim.Native.Nat.{ℕ, _/_, min}
-use mathlib.Core.Bool.{Bool, true, false, cond}
+use mathlib.Core.Bool.{Bool, true, cond}
 use mathlib.Core.List.{List, [], _∷_}
 use lib.ListN.{length, getD, replicate}
 use lib.Dec.{eqb, leb}

@@ -2,19 +2,18 @@
 -- metadata that doesn't apply is zero". Assumes nothing.
 use Prim.Native.Nat.{ℕ}
 use mathlib.Core.Bool.{Bool, true, false, not, cond}
-use mathlib.Core.List.{List, [], _∷_}
+use mathlib.Core.List.{[], _∷_}
 use lib.ListN.{getD}
 use lib.Dec.{eqb, leb}
 use Rattle.lists.specs.Tests.{_and_, _imp_}
 use Rattle.ids.specs.declared.LockId.{LockId}
-use Rattle.coverage.specs.declared.LockCoverage.{LockCoverage}
 use Rattle.state.specs.declared.ScopeKey.{ScopeKey}
 use Rattle.state.specs.declared.ScopeKey.the-variants.{Vehicle, Ecu, FunctionalGroup}
 use Rattle.state.specs.declared.Lock.{Lock}
 use Rattle.state.specs.declared.ActiveLock.{ActiveLock}
 use Rattle.state.specs.declared.DefunctLock.{DefunctLock}
 use Rattle.records.specs.declared.bodies.Head.{Head}
-use Rattle.records.specs.Numbers.{Field, little, big}
+use Rattle.records.specs.Numbers.{little, big}
 use Rattle.records.specs.Codecs.{Codec, joined}
 
 abbrev pub flag : Bool → ℕ

@@ -33,14 +33,15 @@ pub(crate) fn u64_at(s: &[u8], at: usize) -> u64
     (u32_at(s, at) as u64) + (u32_at(s, at + 4) as u64) * 0x1_0000_0000
 }
 
-pub(crate) fn big16_at(s: &[u8], at: usize) -> u16
+// Ids are read most significant byte first, in two halves.
+fn big16_at(s: &[u8], at: usize) -> u16
     requires { ⌜ at + 2 ≤ length (now s) ⌝ }
     ensures { λ r. ⌜ r ≡ field (big 2) (now (s .entry)) at ⌝ }
 {
     (u8_at(s, at) as u16) * 0x100 + (u8_at(s, at + 1) as u16)
 }
 
-pub(crate) fn big32_at(s: &[u8], at: usize) -> u32
+fn big32_at(s: &[u8], at: usize) -> u32
     requires { ⌜ at + 4 ≤ length (now s) ⌝ }
     ensures { λ r. ⌜ r ≡ field (big 4) (now (s .entry)) at ⌝ }
 {
@@ -85,7 +86,7 @@ pub(crate) fn put_u64(out: &mut [u8], at: usize, v: u64)
     put_u32(out, at + 4, (v / 0x1_0000_0000) as u32);
 }
 
-pub(crate) fn put_big16(out: &mut [u8], at: usize, v: u16)
+fn put_big16(out: &mut [u8], at: usize, v: u16)
     requires { ⌜ at + 2 ≤ length (now out) ⌝ }
     ensures { λ r. ⌜ now (out .exit) ≡ splice (now (out .entry)) at (bytesOf (big 2) v) ⌝ }
 {
@@ -93,7 +94,7 @@ pub(crate) fn put_big16(out: &mut [u8], at: usize, v: u16)
     put_u8(out, at + 1, (v % 0x100) as u8);
 }
 
-pub(crate) fn put_big32(out: &mut [u8], at: usize, v: u32)
+fn put_big32(out: &mut [u8], at: usize, v: u32)
     requires { ⌜ at + 4 ≤ length (now out) ⌝ }
     ensures { λ r. ⌜ now (out .exit) ≡ splice (now (out .entry)) at (bytesOf (big 4) v) ⌝ }
 {

@@ -1,4 +1,4 @@
-// Records: numbers in bytes, the table of kinds, framing.
+// Records: numbers in bytes, the table of kinds, framing, the bodies of images and feeds.
 // SPDX-License-Identifier: Apache-2.0
 pub mod bodies;
 pub mod fields;

@@ -6,28 +6,19 @@ use Rattle.records.proofs.Codecs.{is-short, is-good, is-wrong}
 use borrow.Author.Needs.{needs}
 use Rattle.records.proofs.bodies.decode_active.Statement.{statement}
 use Rattle.records.proofs.bodies.decode_active.Tie as tie
-use Rattle.records.proofs.bodies.decode_active.Reads as reads
-use Rattle.records.proofs.bodies.decode_active.Lts as lts
-use Rattle.records.proofs.bodies.active_made.Reads as active-made-reads
-use Rattle.records.proofs.bodies.active_right.Reads as active-right-reads
 
--- src/bodies.rt:189:9
 returns : tie.Need-returns
 returns c = is-short active Good BadField (now (c .before .before .args .s)) (c .if1 .taken)
 
--- src/bodies.rt:191:8
 active-right-requires : tie.Need-active-right-requires
 active-right-requires c κs = search needs
 
--- src/bodies.rt:192:33
 active-made-requires : tie.Need-active-made-requires
 active-made-requires c κs = search needs
 
--- src/bodies.rt:192:9
 returns-2 : tie.Need-returns-2
 returns-2 c = is-good active Good BadField (now (c .before .before .before .before .before .args .s)) _ (c .before .before .before .if1 .left) (sym (c .before .before .active-right .ensures) ∙ c .before .if2 .taken) (c .active-made .ensures)
 
--- src/bodies.rt:185:1
 returns-3 : tie.Need-returns-3
 returns-3 c = is-wrong active Good BadField (now (c .before .before .before .before .args .s)) (c .before .before .if1 .left) (sym (c .before .active-right .ensures) ∙ c .if2 .left)
 

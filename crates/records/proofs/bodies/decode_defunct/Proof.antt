@@ -7,28 +7,19 @@ use Rattle.records.proofs.Wire.{and-true}
 use borrow.Author.Needs.{needs}
 use Rattle.records.proofs.bodies.decode_defunct.Statement.{statement}
 use Rattle.records.proofs.bodies.decode_defunct.Tie as tie
-use Rattle.records.proofs.bodies.decode_defunct.Reads as reads
-use Rattle.records.proofs.bodies.decode_defunct.Lts as lts
-use Rattle.records.proofs.bodies.defunct_made.Reads as defunct-made-reads
-use Rattle.records.proofs.bodies.lock_right.Reads as lock-right-reads
 
--- src/bodies.rt:201:9
 returns : tie.Need-returns
 returns c = is-short defunct Good BadField (now (c .before .before .args .s)) (c .if1 .taken)
 
--- src/bodies.rt:203:8
 lock-right-requires : tie.Need-lock-right-requires
 lock-right-requires c κs = search needs
 
--- src/bodies.rt:204:34
 defunct-made-requires : tie.Need-defunct-made-requires
 defunct-made-requires c κs = search needs
 
--- src/bodies.rt:204:9
 returns-2 : tie.Need-returns-2
 returns-2 c = is-good defunct Good BadField (now (c .before .before .before .before .before .args .s)) _ (c .before .before .before .if1 .left) (and-true _ ∙ sym (c .before .before .lock-right .ensures) ∙ c .before .if2 .taken) (c .defunct-made .ensures)
 
--- src/bodies.rt:197:1
 returns-3 : tie.Need-returns-3
 returns-3 c = is-wrong defunct Good BadField (now (c .before .before .before .before .args .s)) (c .before .before .if1 .left) (and-true _ ∙ sym (c .before .lock-right .ensures) ∙ c .if2 .left)
 

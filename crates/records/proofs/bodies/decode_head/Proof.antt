@@ -1,4 +1,4 @@
-use mathlib.Core.Path.{sym, ap, _∙_}
+use mathlib.Core.Path.{_∙_}
 use denote.Ref.{now}
 use Rattle.records.specs.declared.bodies.HeadRead.the-variants.{Good, BadField}
 use Rattle.records.specs.Wire.{head}
@@ -7,24 +7,17 @@ use Rattle.records.proofs.Wire.{head-right}
 use borrow.Author.Needs.{needs}
 use Rattle.records.proofs.bodies.decode_head.Statement.{statement}
 use Rattle.records.proofs.bodies.decode_head.Tie as tie
-use Rattle.records.proofs.bodies.decode_head.Reads as reads
-use Rattle.records.proofs.bodies.decode_head.Lts as lts
-use Rattle.records.proofs.bodies.head_made.Reads as head-made-reads
 
--- src/bodies.rt:176:9
 returns : tie.Need-returns
 returns c = is-short head Good BadField (now (c .before .before .args .s)) (c .if1 .taken)
 
--- src/bodies.rt:178:9
 head-made-requires : tie.Need-head-made-requires
 head-made-requires c κs = search needs
 
--- src/bodies.rt:180:9
 returns-2 : tie.Need-returns-2
 returns-2 c =
     is-good head Good BadField (now (c .before .before .before .before .before .before .args .s)) _ (c .before .before .before .before .if1 .left) (head-right (now (c .before .before .before .before .before .before .args .s)) (c .before .before .before .head-made .result) (c .before .before .before .head-made .ensures) ∙ c .if2 .taken) (c .before .before .before .head-made .ensures)
 
--- src/bodies.rt:172:1
 returns-3 : tie.Need-returns-3
 returns-3 c = is-wrong head Good BadField (now (c .before .before .before .before .before .before .args .s)) (c .before .before .before .before .if1 .left) (head-right (now (c .before .before .before .before .before .before .args .s)) (c .before .before .before .head-made .result) (c .before .before .before .head-made .ensures) ∙ c .if2 .left)
 

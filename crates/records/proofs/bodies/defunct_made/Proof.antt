@@ -1,39 +1,25 @@
 use borrow.Author.Needs.{needs}
 use Rattle.records.proofs.bodies.defunct_made.Statement.{statement}
 use Rattle.records.proofs.bodies.defunct_made.Tie as tie
-use Rattle.records.proofs.bodies.defunct_made.Reads as reads
-use Rattle.records.proofs.bodies.defunct_made.Lts as lts
-use Rattle.records.proofs.bodies.id_at.Reads as id-at-reads
-use Rattle.records.proofs.bodies.lock_made.Reads as lock-made-reads
-use Rattle.records.proofs.fields.u16_at.Reads as u16-at-reads
-use Rattle.records.proofs.fields.u32_at.Reads as u32-at-reads
-use Rattle.records.proofs.fields.u64_at.Reads as u64-at-reads
 
--- src/bodies.rt:150:15
 lock-made-requires : tie.Need-lock-made-requires
 lock-made-requires c κs = search needs
 
--- src/bodies.rt:151:17
 id-at-requires : tie.Need-id-at-requires
 id-at-requires c κs = search needs
 
--- src/bodies.rt:152:18
 u64-at-requires : tie.Need-u64-at-requires
 u64-at-requires c κs = search needs
 
--- src/bodies.rt:153:17
 u64-at-requires-2 : tie.Need-u64-at-requires-2
 u64-at-requires-2 c κs = search needs
 
--- src/bodies.rt:154:18
 u32-at-requires : tie.Need-u32-at-requires
 u32-at-requires c κs = search needs
 
--- src/bodies.rt:155:17
 u16-at-requires : tie.Need-u16-at-requires
 u16-at-requires c κs = search needs
 
--- src/bodies.rt:145:1
 returns : tie.Need-returns
 returns c =
     rw (c .before .before .before .before .before .lock-made .ensures, c .before .before .before .before .id-at .ensures, c .before .before .before .u64-at .ensures, c .before .before .u64-at2 .ensures, c .before .u32-at .ensures, c .u16-at .ensures)

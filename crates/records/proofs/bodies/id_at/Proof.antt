@@ -1,23 +1,16 @@
 use borrow.Author.Needs.{needs}
 use Rattle.records.proofs.bodies.id_at.Statement.{statement}
 use Rattle.records.proofs.bodies.id_at.Tie as tie
-use Rattle.records.proofs.bodies.id_at.Reads as reads
-use Rattle.records.proofs.bodies.id_at.Lts as lts
-use Rattle.records.proofs.fields.big64_at.Reads as big64-at-reads
 
--- src/bodies.rt:94:13
 big64-at-requires : tie.Need-big64-at-requires
 big64-at-requires c κs = search needs
 
--- src/bodies.rt:95:33
 add-big64-at : tie.Need-add-big64-at
 add-big64-at c = search needs
 
--- src/bodies.rt:95:13
 big64-at-requires-2 : tie.Need-big64-at-requires-2
 big64-at-requires-2 c κs = search needs
 
--- src/bodies.rt:89:1
 returns : tie.Need-returns
 returns c = rw (c .before .big64-at .ensures, c .big64-at2 .ensures)
 

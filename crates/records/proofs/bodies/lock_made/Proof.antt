@@ -1,68 +1,46 @@
 use borrow.Author.Needs.{needs}
 use Rattle.records.proofs.bodies.lock_made.Statement.{statement}
 use Rattle.records.proofs.bodies.lock_made.Tie as tie
-use Rattle.records.proofs.bodies.lock_made.Reads as reads
-use Rattle.records.proofs.bodies.lock_made.Lts as lts
-use Rattle.records.proofs.bodies.id_at.Reads as id-at-reads
-use Rattle.records.proofs.bodies.scope_of.Reads as scope-of-reads
-use Rattle.records.proofs.fields.u16_at.Reads as u16-at-reads
-use Rattle.records.proofs.fields.u32_at.Reads as u32-at-reads
-use Rattle.records.proofs.fields.u64_at.Reads as u64-at-reads
-use Rattle.records.proofs.fields.u8_at.Reads as u8-at-reads
 
--- src/bodies.rt:116:13
 u64-at-requires : tie.Need-u64-at-requires
 u64-at-requires c κs = search needs
 
--- src/bodies.rt:117:13
 u64-at-requires-2 : tie.Need-u64-at-requires-2
 u64-at-requires-2 c κs = search needs
 
--- src/bodies.rt:118:13
 u64-at-requires-3 : tie.Need-u64-at-requires-3
 u64-at-requires-3 c κs = search needs
 
--- src/bodies.rt:119:13
 u64-at-requires-4 : tie.Need-u64-at-requires-4
 u64-at-requires-4 c κs = search needs
 
--- src/bodies.rt:120:16
 u8-at-requires : tie.Need-u8-at-requires
 u8-at-requires c κs = search needs
 
--- src/bodies.rt:123:13
 id-at-requires : tie.Need-id-at-requires
 id-at-requires c κs = search needs
 
--- src/bodies.rt:125:20
 u32-at-requires : tie.Need-u32-at-requires
 u32-at-requires c κs = search needs
 
--- src/bodies.rt:126:19
 u32-at-requires-2 : tie.Need-u32-at-requires-2
 u32-at-requires-2 c κs = search needs
 
--- src/bodies.rt:127:18
 u16-at-requires : tie.Need-u16-at-requires
 u16-at-requires c κs = search needs
 
--- src/bodies.rt:128:25
 u8-at-requires-2 : tie.Need-u8-at-requires-2
 u8-at-requires-2 c κs = search needs
 
--- src/bodies.rt:128:47
 u8-at-requires-3 : tie.Need-u8-at-requires-3
 u8-at-requires-3 c κs = search needs
 
--- src/bodies.rt:128:16
 scope-of-requires : tie.Need-scope-of-requires
 scope-of-requires c κs = search needs
 
--- src/bodies.rt:129:20
 u8-at-requires-4 : tie.Need-u8-at-requires-4
 u8-at-requires-4 c κs = search needs
 
--- src/bodies.rt:111:1
 returns : tie.Need-returns
 returns c =
     rw (

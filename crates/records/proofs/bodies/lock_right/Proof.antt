@@ -2,54 +2,37 @@ use Rattle.records.proofs.Wire.{three}
 use borrow.Author.Needs.{needs}
 use Rattle.records.proofs.bodies.lock_right.Statement.{statement}
 use Rattle.records.proofs.bodies.lock_right.Tie as tie
-use Rattle.records.proofs.bodies.lock_right.Reads as reads
-use Rattle.records.proofs.bodies.lock_right.Lts as lts
-use Rattle.records.proofs.bodies.scope_right.Reads as scope-right-reads
-use Rattle.records.proofs.bodies.set_right.Reads as set-right-reads
-use Rattle.records.proofs.fields.u64_at.Reads as u64-at-reads
-use Rattle.records.proofs.fields.u8_at.Reads as u8-at-reads
 
--- src/bodies.rt:63:29
 u8-at-requires : tie.Need-u8-at-requires
 u8-at-requires c κs = search needs
 
--- src/bodies.rt:63:51
 u8-at-requires-2 : tie.Need-u8-at-requires-2
 u8-at-requires-2 c κs = search needs
 
--- src/bodies.rt:63:9
 scope-right-requires : tie.Need-scope-right-requires
 scope-right-requires c κs = search needs
 
--- src/bodies.rt:64:21
 u8-at-requires-3 : tie.Need-u8-at-requires-3
 u8-at-requires-3 c κs = search needs
 
--- src/bodies.rt:66:9
 u8-at-requires-4 : tie.Need-u8-at-requires-4
 u8-at-requires-4 c κs = search needs
 
--- src/bodies.rt:67:9
 u64-at-requires : tie.Need-u64-at-requires
 u64-at-requires c κs = search needs
 
--- src/bodies.rt:68:9
 u64-at-requires-2 : tie.Need-u64-at-requires-2
 u64-at-requires-2 c κs = search needs
 
--- src/bodies.rt:69:9
 u64-at-requires-3 : tie.Need-u64-at-requires-3
 u64-at-requires-3 c κs = search needs
 
--- src/bodies.rt:70:9
 u64-at-requires-4 : tie.Need-u64-at-requires-4
 u64-at-requires-4 c κs = search needs
 
--- src/bodies.rt:65:9
 set-right-requires : tie.Need-set-right-requires
 set-right-requires c κs = search needs
 
--- src/bodies.rt:59:1
 returns : tie.Need-returns
 returns c =
     rw (

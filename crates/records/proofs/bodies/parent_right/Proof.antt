@@ -3,10 +3,7 @@ use Rattle.lists.proofs.Tests.{and-code}
 use Rattle.records.specs.Wire.{parentRight}
 use Rattle.records.proofs.bodies.parent_right.Statement.{statement}
 use Rattle.records.proofs.bodies.parent_right.Tie as tie
-use Rattle.records.proofs.bodies.parent_right.Reads as reads
-use Rattle.records.proofs.bodies.parent_right.Lts as lts
 
--- src/bodies.rt:53:1
 returns : tie.Need-returns
 unfolding parentRight
 returns c = unless _ _ _ _ (and-code _ _)

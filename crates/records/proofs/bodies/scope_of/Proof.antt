@@ -2,20 +2,15 @@ use borrow.Author.Tests.{eq-eqb, ne-eqb}
 use Rattle.records.specs.Wire.{scopeOf}
 use Rattle.records.proofs.bodies.scope_of.Statement.{statement}
 use Rattle.records.proofs.bodies.scope_of.Tie as tie
-use Rattle.records.proofs.bodies.scope_of.Reads as reads
-use Rattle.records.proofs.bodies.scope_of.Lts as lts
 
--- src/bodies.rt:103:9
 returns : tie.Need-returns
 unfolding scopeOf
 returns c = simp (eq-eqb _ _ (c .if1 .taken))
 
--- src/bodies.rt:106:9
 returns-2 : tie.Need-returns-2
 unfolding scopeOf
 returns-2 c = simp (ne-eqb _ _ (c .before .if1 .left), eq-eqb _ _ (c .if2 .taken))
 
--- src/bodies.rt:99:1
 returns-3 : tie.Need-returns-3
 unfolding scopeOf
 returns-3 c = simp (ne-eqb _ _ (c .before .if1 .left), ne-eqb _ _ (c .if2 .left))

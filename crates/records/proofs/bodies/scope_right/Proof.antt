@@ -3,10 +3,7 @@ use Rattle.records.proofs.Wire.{unless}
 use Rattle.records.specs.Wire.{scopeRight}
 use Rattle.records.proofs.bodies.scope_right.Statement.{statement}
 use Rattle.records.proofs.bodies.scope_right.Tie as tie
-use Rattle.records.proofs.bodies.scope_right.Reads as reads
-use Rattle.records.proofs.bodies.scope_right.Lts as lts
 
--- src/bodies.rt:41:1
 returns : tie.Need-returns
 unfolding scopeRight
 returns c = unless _ _ _ _ refl

@@ -2,10 +2,7 @@ use Rattle.records.proofs.Wire.{unless, four}
 use Rattle.records.specs.Wire.{setRight}
 use Rattle.records.proofs.bodies.set_right.Statement.{statement}
 use Rattle.records.proofs.bodies.set_right.Tie as tie
-use Rattle.records.proofs.bodies.set_right.Reads as reads
-use Rattle.records.proofs.bodies.set_right.Lts as lts
 
--- src/bodies.rt:47:1
 returns : tie.Need-returns
 unfolding setRight
 returns c = unless _ _ _ _ (four _ _ _ _)

@@ -5,9 +5,6 @@ use native.Mathlib.Omega.{arith}
 use borrow.Author.Needs.{needs}
 use Rattle.records.proofs.fields.big16_at.Statement.{statement}
 use Rattle.records.proofs.fields.big16_at.Tie as tie
-use Rattle.records.proofs.fields.big16_at.Reads as reads
-use Rattle.records.proofs.fields.big16_at.Lts as lts
-use Rattle.records.proofs.fields.u8_at.Reads as u8-at-reads
 
 u8-at-requires : tie.Need-u8-at-requires
 u8-at-requires c κs = search needs

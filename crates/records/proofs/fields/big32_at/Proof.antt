@@ -4,9 +4,6 @@ use native.Mathlib.Omega.{arith}
 use borrow.Author.Needs.{needs}
 use Rattle.records.proofs.fields.big32_at.Statement.{statement}
 use Rattle.records.proofs.fields.big32_at.Tie as tie
-use Rattle.records.proofs.fields.big32_at.Reads as reads
-use Rattle.records.proofs.fields.big32_at.Lts as lts
-use Rattle.records.proofs.fields.big16_at.Reads as big16-at-reads
 
 big16-at-requires : tie.Need-big16-at-requires
 big16-at-requires c κs = search needs

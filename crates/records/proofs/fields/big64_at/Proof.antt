@@ -4,9 +4,6 @@ use native.Mathlib.Omega.{arith}
 use borrow.Author.Needs.{needs}
 use Rattle.records.proofs.fields.big64_at.Statement.{statement}
 use Rattle.records.proofs.fields.big64_at.Tie as tie
-use Rattle.records.proofs.fields.big64_at.Reads as reads
-use Rattle.records.proofs.fields.big64_at.Lts as lts
-use Rattle.records.proofs.fields.big32_at.Reads as big32-at-reads
 
 big32-at-requires : tie.Need-big32-at-requires
 big32-at-requires c κs = search needs

@@ -4,9 +4,6 @@ use native.Mathlib.Omega.{arith}
 use borrow.Author.Needs.{needs}
 use Rattle.records.proofs.fields.put_big32.Statement.{statement}
 use Rattle.records.proofs.fields.put_big32.Tie as tie
-use Rattle.records.proofs.fields.put_big32.Reads as reads
-use Rattle.records.proofs.fields.put_big32.Lts as lts
-use Rattle.records.proofs.fields.put_big16.Reads as put-big16-reads
 
 cast-put-big16 : tie.Need-cast-put-big16
 cast-put-big16 c = search needs

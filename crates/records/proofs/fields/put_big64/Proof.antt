@@ -4,9 +4,6 @@ use native.Mathlib.Omega.{arith}
 use borrow.Author.Needs.{needs}
 use Rattle.records.proofs.fields.put_big64.Statement.{statement}
 use Rattle.records.proofs.fields.put_big64.Tie as tie
-use Rattle.records.proofs.fields.put_big64.Reads as reads
-use Rattle.records.proofs.fields.put_big64.Lts as lts
-use Rattle.records.proofs.fields.put_big32.Reads as put-big32-reads
 
 cast-put-big32 : tie.Need-cast-put-big32
 cast-put-big32 c = search needs

@@ -4,9 +4,6 @@ use native.Mathlib.Omega.{arith}
 use borrow.Author.Needs.{needs}
 use Rattle.records.proofs.fields.put_u16.Statement.{statement}
 use Rattle.records.proofs.fields.put_u16.Tie as tie
-use Rattle.records.proofs.fields.put_u16.Reads as reads
-use Rattle.records.proofs.fields.put_u16.Lts as lts
-use Rattle.records.proofs.fields.put_u8.Reads as put-u8-reads
 
 cast-put-u8 : tie.Need-cast-put-u8
 cast-put-u8 c = search needs

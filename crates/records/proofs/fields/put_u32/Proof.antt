@@ -4,9 +4,6 @@ use native.Mathlib.Omega.{arith}
 use borrow.Author.Needs.{needs}
 use Rattle.records.proofs.fields.put_u32.Statement.{statement}
 use Rattle.records.proofs.fields.put_u32.Tie as tie
-use Rattle.records.proofs.fields.put_u32.Reads as reads
-use Rattle.records.proofs.fields.put_u32.Lts as lts
-use Rattle.records.proofs.fields.put_u16.Reads as put-u16-reads
 
 cast-put-u16 : tie.Need-cast-put-u16
 cast-put-u16 c = search needs

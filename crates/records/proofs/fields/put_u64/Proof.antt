@@ -4,9 +4,6 @@ use native.Mathlib.Omega.{arith}
 use borrow.Author.Needs.{needs}
 use Rattle.records.proofs.fields.put_u64.Statement.{statement}
 use Rattle.records.proofs.fields.put_u64.Tie as tie
-use Rattle.records.proofs.fields.put_u64.Reads as reads
-use Rattle.records.proofs.fields.put_u64.Lts as lts
-use Rattle.records.proofs.fields.put_u32.Reads as put-u32-reads
 
 cast-put-u32 : tie.Need-cast-put-u32
 cast-put-u32 c = search needs

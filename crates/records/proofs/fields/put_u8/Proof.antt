@@ -3,8 +3,6 @@ use Rattle.records.proofs.Numbers.{put-one}
 use borrow.Author.Needs.{needs}
 use Rattle.records.proofs.fields.put_u8.Statement.{statement}
 use Rattle.records.proofs.fields.put_u8.Tie as tie
-use Rattle.records.proofs.fields.put_u8.Reads as reads
-use Rattle.records.proofs.fields.put_u8.Lts as lts
 
 slice-write-out : tie.Need-slice-write-out
 slice-write-out c = search needs

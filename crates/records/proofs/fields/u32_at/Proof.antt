@@ -4,9 +4,6 @@ use native.Mathlib.Omega.{arith}
 use borrow.Author.Needs.{needs}
 use Rattle.records.proofs.fields.u32_at.Statement.{statement}
 use Rattle.records.proofs.fields.u32_at.Tie as tie
-use Rattle.records.proofs.fields.u32_at.Reads as reads
-use Rattle.records.proofs.fields.u32_at.Lts as lts
-use Rattle.records.proofs.fields.u16_at.Reads as u16-at-reads
 
 u16-at-requires : tie.Need-u16-at-requires
 u16-at-requires c κs = search needs

@@ -4,9 +4,6 @@ use native.Mathlib.Omega.{arith}
 use borrow.Author.Needs.{needs}
 use Rattle.records.proofs.fields.u64_at.Statement.{statement}
 use Rattle.records.proofs.fields.u64_at.Tie as tie
-use Rattle.records.proofs.fields.u64_at.Reads as reads
-use Rattle.records.proofs.fields.u64_at.Lts as lts
-use Rattle.records.proofs.fields.u32_at.Reads as u32-at-reads
 
 u32-at-requires : tie.Need-u32-at-requires
 u32-at-requires c κs = search needs

@@ -3,8 +3,6 @@ use Rattle.records.proofs.Numbers.{one-at}
 use borrow.Author.Needs.{needs}
 use Rattle.records.proofs.fields.u8_at.Statement.{statement}
 use Rattle.records.proofs.fields.u8_at.Tie as tie
-use Rattle.records.proofs.fields.u8_at.Reads as reads
-use Rattle.records.proofs.fields.u8_at.Lts as lts
 
 shared-slice-read-result : tie.Need-shared-slice-read-result
 shared-slice-read-result c = search needs

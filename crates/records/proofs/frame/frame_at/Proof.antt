@@ -1,4 +1,4 @@
-use mathlib.Core.Path.{sym, ap, _∙_}
+use mathlib.Core.Path.{sym, _∙_}
 use native.Mathlib.Omega.{arith}
 use denote.Ref.{now}
 use Rattle.records.proofs.Table.{rule}
@@ -6,59 +6,42 @@ use Rattle.records.proofs.Framing.{under-four, by-row}
 use borrow.Author.Needs.{needs}
 use Rattle.records.proofs.frame.frame_at.Statement.{statement}
 use Rattle.records.proofs.frame.frame_at.Tie as tie
-use Rattle.records.proofs.frame.frame_at.Reads as reads
-use Rattle.records.proofs.frame.frame_at.Lts as lts
-use Rattle.records.proofs.fields.u16_at.Reads as u16-at-reads
-use Rattle.records.proofs.frame.frame_of.Reads as frame-of-reads
-use Rattle.records.proofs.kinds.row_of.Reads as row-of-reads
 
--- src/frame.rt:57:9
 returns : tie.Need-returns
 returns c = let a = c .before .before .args in under-four (now (a .s)) (a .at) (a .due) (omega arith)
 
--- src/frame.rt:59:16
 sub-left : tie.Need-sub-left
 sub-left c = search needs
 
--- src/frame.rt:61:9
 returns-2 : tie.Need-returns-2
 returns-2 c = let a = c .before .before .before .args in under-four (now (a .s)) (a .at) (a .due) (c .if2 .taken)
 
--- src/frame.rt:63:9
 u16-at-requires : tie.Need-u16-at-requires
 u16-at-requires c κs = search needs
 
--- src/frame.rt:64:43
 add-u16-at : tie.Need-add-u16-at
 add-u16-at c = search needs
 
--- src/frame.rt:64:25
 u16-at-requires-2 : tie.Need-u16-at-requires-2
 u16-at-requires-2 c κs = search needs
 
--- src/frame.rt:64:11
 row-of-requires : tie.Need-row-of-requires
 row-of-requires c κs = search needs
 
--- src/frame.rt:65:20
 enum-known-row : tie.Need-enum-known-row
 enum-known-row c = search needs
 
--- src/frame.rt:65:28
 frame-of-requires : tie.Need-frame-of-requires
 frame-of-requires c κs = omega (arith, c .before .before .before .before .before .before .before .before .before .good, rule _ (c .before .row .given .0 .0) (sym (c .before .before .before .row-of .ensures) ∙ c .before .row .given .1))
 
--- src/frame.rt:66:25
 enum-told : tie.Need-enum-told
 enum-told c = search needs
 
--- src/frame.rt:53:1
 returns-3 : tie.Need-returns-3
 returns-3 c =
     let a = c .before .before .before .before .before .before .before .before .before .before .args in
     rw (by-row (now (a .s)) (a .at) (a .due) (c .before .before .before .before .before .before .before .if2 .left), ← c .before .before .before .before .before .before .u16-at .ensures, ← c .before .before .before .before .before .u16-at2 .ensures, ← c .before .before .before .before .row-of .ensures, c .before .before .row .given .1) (c .frame-of .ensures)
 
--- src/frame.rt:53:1
 returns-4 : tie.Need-returns-4
 returns-4 c =
     let a = c .before .before .before .before .before .before .before .before .args in

@@ -1,67 +1,50 @@
-use mathlib.Core.Path.{sym, ap, _∙_}
+use mathlib.Core.Path.{sym, _∙_}
 use native.Mathlib.Omega.{arith}
 use borrow.Author.Tests.{not-true, not-false}
-use Rattle.records.specs.declared.frame.Framed.the-variants.{Record}
-use Rattle.records.specs.Framing.{spanOf}
 use Rattle.records.proofs.Table.{length-of}
 use Rattle.records.proofs.Framing.{not-due, impossible, missing, is-whole}
 use borrow.Author.Needs.{needs}
 use Rattle.records.proofs.frame.frame_of.Statement.{statement}
 use Rattle.records.proofs.frame.frame_of.Tie as tie
-use Rattle.records.proofs.frame.frame_of.Reads as reads
-use Rattle.records.proofs.frame.frame_of.Lts as lts
-use Rattle.records.proofs.kinds.possible.Reads as possible-reads
-use Rattle.records.proofs.kinds.units_in.Reads as units-in-reads
 
--- src/frame.rt:33:9
 returns : tie.Need-returns
 returns c = let a = c .before .before .args in not-due (a .row) (a .n) (a .at) (a .left) (a .due) (c .if1 .taken)
 
--- src/frame.rt:35:9
 possible-requires : tie.Need-possible-requires
 possible-requires c κs = search needs
 
--- src/frame.rt:36:9
 returns-2 : tie.Need-returns-2
 returns-2 c =
     let a = c .before .before .before .before .args in
     impossible (a .row) (a .n) (a .at) (a .left) (a .due) (c .before .before .if1 .left) (sym (c .before .possible .ensures) ∙ not-true _ (c .if2 .taken))
 
--- src/frame.rt:39:15
 add-if3 : tie.Need-add-if3
 add-if3 c = search needs
 
--- src/frame.rt:40:9
 returns-3 : tie.Need-returns-3
 returns-3 c =
     let a = c .before .before .before .before .before .args in
     missing (a .row) (a .n) (a .at) (a .left) (a .due) (c .before .before .before .if1 .left) (sym (c .before .before .possible .ensures) ∙ not-false _ (c .before .if2 .left)) (c .if3 .taken)
 
--- src/frame.rt:42:9
 units-in-requires : tie.Need-units-in-requires
 units-in-requires c κs = search needs
 
--- src/frame.rt:45:16
 add-t10 : tie.Need-add-t10
 add-t10 c =
     let a = c .before .before .before .before .before .before .args in
     omega (arith, c .before .before .before .before .before .before .pre, c .before .if3 .left, length-of (a .row) (a .n) (sym (c .before .before .before .possible .ensures) ∙ not-false _ (c .before .before .if2 .left)))
 
--- src/frame.rt:46:15
 sub-t11 : tie.Need-sub-t11
 sub-t11 c =
     let a = c .before .before .before .before .before .before .args in
     omega (arith, c .before .before .before .before .before .before .pre, c .before .if3 .left, length-of (a .row) (a .n) (sym (c .before .before .before .possible .ensures) ∙ not-false _ (c .before .before .if2 .left)))
 
--- src/frame.rt:48:15
 add-t12 : tie.Need-add-t12
 add-t12 c = search needs
 
--- src/frame.rt:48:15
 add-t13 : tie.Need-add-t13
 add-t13 c = search needs
 
--- src/frame.rt:28:1
 returns-4 : tie.Need-returns-4
 returns-4 c =
     let a = c .before .before .before .before .before .before .args in

@@ -2,28 +2,20 @@ use Rattle.records.specs.Table.{lengthOf}
 use borrow.Author.Needs.{needs}
 use Rattle.records.proofs.kinds.length_of.Statement.{statement}
 use Rattle.records.proofs.kinds.length_of.Tie as tie
-use Rattle.records.proofs.kinds.length_of.Reads as reads
-use Rattle.records.proofs.kinds.length_of.Lts as lts
-use Rattle.records.proofs.kinds.row_of.Reads as row-of-reads
 
--- src/kinds.rt:142:11
 row-of-requires : tie.Need-row-of-requires
 row-of-requires c κs = search needs
 
--- src/kinds.rt:143:20
 enum-known-row : tie.Need-enum-known-row
 enum-known-row c = search needs
 
--- src/kinds.rt:144:25
 enum-told : tie.Need-enum-told
 enum-told c = search needs
 
--- src/kinds.rt:139:1
 returns : tie.Need-returns
 unfolding lengthOf
 returns c = rw (← c .before .before .before .row-of .ensures, c .before .row .given .1)
 
--- src/kinds.rt:139:1
 returns-2 : tie.Need-returns-2
 unfolding lengthOf
 returns-2 c = rw (← c .before .before .row-of .ensures, c .enum-told .given .1)

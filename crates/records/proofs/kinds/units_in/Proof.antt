@@ -4,22 +4,16 @@ use mathlib.Core.Path.{refl}
 use borrow.Author.Needs.{needs}
 use Rattle.records.proofs.kinds.units_in.Statement.{statement}
 use Rattle.records.proofs.kinds.units_in.Tie as tie
-use Rattle.records.proofs.kinds.units_in.Reads as reads
-use Rattle.records.proofs.kinds.units_in.Lts as lts
 
--- src/kinds.rt:118:9
 returns : tie.Need-returns
 returns c = units-none (c .before .before .args .row) (c .before .before .args .n) (c .if1 .taken)
 
--- src/kinds.rt:121:9
 returns-2 : tie.Need-returns-2
 returns-2 c = units-short (c .before .before .before .before .args .row) (c .before .before .before .before .args .n) (c .if2 .taken)
 
--- src/kinds.rt:123:5
 div-result : tie.Need-div-result
 div-result c = search needs
 
--- src/kinds.rt:114:1
 returns-3 : tie.Need-returns-3
 unfolding unitsIn
 returns-3 c = refl

@@ -1,7 +1,6 @@
-use mathlib.Core.Path.{refl, sym, ap, ap₂, _∙_}
+use mathlib.Core.Path.{refl}
 use denote.Ref.{now}
 use Rattle.records.specs.declared.requests.Asked.the-variants.{BadField}
-use Rattle.records.specs.Codecs.{pair, number}
 use Rattle.lists.proofs.Tests.{and-i}
 use Rattle.records.specs.declared.requests.Request.the-variants.{BeginExpiration}
 use Rattle.records.specs.Feeds.{asked, numbered, expiration}
@@ -9,29 +8,19 @@ use Rattle.records.proofs.Codecs.{is-short, is-good}
 use borrow.Author.Needs.{needs}
 use Rattle.records.proofs.requests.read_begin_expiration.Statement.{statement}
 use Rattle.records.proofs.requests.read_begin_expiration.Tie as tie
-use Rattle.records.proofs.requests.read_begin_expiration.Reads as reads
-use Rattle.records.proofs.requests.read_begin_expiration.Lts as lts
-use Rattle.records.proofs.bodies.id_at.Reads as id-at-reads
-use Rattle.records.proofs.fields.u32_at.Reads as u32-at-reads
-use Rattle.records.proofs.fields.u64_at.Reads as u64-at-reads
 
--- src/requests.rt:133:9
 returns : tie.Need-returns
 returns c = is-short (numbered expiration) (asked BeginExpiration) BadField (now (c .before .before .args .s)) (c .if1 .taken)
 
--- src/requests.rt:136:13
 id-at-requires : tie.Need-id-at-requires
 id-at-requires c κs = search needs
 
--- src/requests.rt:137:15
 u64-at-requires : tie.Need-u64-at-requires
 u64-at-requires c κs = search needs
 
--- src/requests.rt:139:17
 u32-at-requires : tie.Need-u32-at-requires
 u32-at-requires c κs = search needs
 
--- src/requests.rt:129:1
 returns-2 : tie.Need-returns-2
 returns-2 c =
     is-good (numbered expiration) (asked BeginExpiration) BadField (now (c .before .before .before .before .before .args .s)) _ (c .before .before .before .if1 .left) (and-i _ _ refl refl)

@@ -1,4 +1,4 @@
-use mathlib.Core.Path.{refl, sym, ap, ap₂, _∙_}
+use mathlib.Core.Path.{refl, ap₂}
 use denote.Ref.{now}
 use Rattle.records.specs.declared.requests.Asked.the-variants.{BadField}
 use Rattle.records.specs.Codecs.{pair, number}
@@ -9,24 +9,16 @@ use Rattle.records.proofs.Codecs.{is-short, is-good}
 use borrow.Author.Needs.{needs}
 use Rattle.records.proofs.requests.read_expire_defunct.Statement.{statement}
 use Rattle.records.proofs.requests.read_expire_defunct.Tie as tie
-use Rattle.records.proofs.requests.read_expire_defunct.Reads as reads
-use Rattle.records.proofs.requests.read_expire_defunct.Lts as lts
-use Rattle.records.proofs.fields.u32_at.Reads as u32-at-reads
-use Rattle.records.proofs.fields.u64_at.Reads as u64-at-reads
 
--- src/requests.rt:168:9
 returns : tie.Need-returns
 returns c = is-short (numbered (number 8)) (asked ExpireDefunct) BadField (now (c .before .before .args .s)) (c .if1 .taken)
 
--- src/requests.rt:170:9
 u64-at-requires : tie.Need-u64-at-requires
 u64-at-requires c κs = search needs
 
--- src/requests.rt:171:17
 u32-at-requires : tie.Need-u32-at-requires
 u32-at-requires c κs = search needs
 
--- src/requests.rt:164:1
 returns-2 : tie.Need-returns-2
 returns-2 c =
     is-good (numbered (number 8)) (asked ExpireDefunct) BadField (now (c .before .before .before .before .args .s)) _ (c .before .before .if1 .left) (and-i _ _ refl refl)

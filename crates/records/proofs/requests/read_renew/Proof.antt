@@ -1,9 +1,7 @@
-use mathlib.Core.Path.{refl, sym, ap, ap₂, _∙_}
+use mathlib.Core.Path.{refl, sym, ap₂, _∙_}
 use denote.Ref.{now}
 use Rattle.records.specs.declared.requests.Asked.the-variants.{BadField}
-use Rattle.records.specs.Codecs.{pair, number}
 use lib.Dec.{eqb}
-use Prim.Native.Nat.{ℕ}
 use Rattle.lists.proofs.Tests.{and-t}
 use Rattle.records.specs.declared.requests.Request.the-variants.{Renew}
 use Rattle.records.specs.Feeds.{asked, numbered, renewal, metadataRight}
@@ -11,47 +9,31 @@ use Rattle.records.proofs.Codecs.{is-short, is-good, is-wrong}
 use borrow.Author.Needs.{needs}
 use Rattle.records.proofs.requests.read_renew.Statement.{statement}
 use Rattle.records.proofs.requests.read_renew.Tie as tie
-use Rattle.records.proofs.requests.read_renew.Reads as reads
-use Rattle.records.proofs.requests.read_renew.Lts as lts
-use Rattle.records.proofs.bodies.id_at.Reads as id-at-reads
-use Rattle.records.proofs.fields.u32_at.Reads as u32-at-reads
-use Rattle.records.proofs.fields.u64_at.Reads as u64-at-reads
-use Rattle.records.proofs.fields.u8_at.Reads as u8-at-reads
-use Rattle.records.proofs.requests.metadata_right.Reads as metadata-right-reads
 
--- src/requests.rt:92:9
 returns : tie.Need-returns
 returns c = is-short (numbered renewal) (asked Renew) BadField (now (c .before .before .args .s)) (c .if1 .taken)
 
--- src/requests.rt:94:9
 u8-at-requires : tie.Need-u8-at-requires
 u8-at-requires c κs = search needs
 
--- src/requests.rt:95:9
 u32-at-requires : tie.Need-u32-at-requires
 u32-at-requires c κs = search needs
 
--- src/requests.rt:96:8
 metadata-right-requires : tie.Need-metadata-right-requires
 metadata-right-requires c κs = search needs
 
--- src/requests.rt:98:17
 id-at-requires : tie.Need-id-at-requires
 id-at-requires c κs = search needs
 
--- src/requests.rt:99:22
 u64-at-requires : tie.Need-u64-at-requires
 u64-at-requires c κs = search needs
 
--- src/requests.rt:100:19
 u64-at-requires-2 : tie.Need-u64-at-requires-2
 u64-at-requires-2 c κs = search needs
 
--- src/requests.rt:104:28
 u32-at-requires-2 : tie.Need-u32-at-requires-2
 u32-at-requires-2 c κs = search needs
 
--- src/requests.rt:104:9
 returns-2 : tie.Need-returns-2
 returns-2 c =
     is-good (numbered renewal) (asked Renew) BadField (now (c .before .before .before .before .before .before .before .before .before .before .args .s)) _ (c .before .before .before .before .before .before .before .before .if1 .left)
@@ -67,7 +49,6 @@ returns-2 c =
       },
     ))
 
--- src/requests.rt:88:1
 returns-3 : tie.Need-returns-3
 returns-3 c =
     is-wrong (numbered renewal) (asked Renew) BadField (now (c .before .before .before .before .before .before .args .s)) (c .before .before .before .before .if1 .left)

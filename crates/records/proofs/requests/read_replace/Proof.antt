@@ -1,7 +1,6 @@
-use mathlib.Core.Path.{refl, sym, ap, ap₂, _∙_}
+use mathlib.Core.Path.{sym, ap, _∙_}
 use denote.Ref.{now}
 use Rattle.records.specs.declared.requests.Asked.the-variants.{BadField}
-use Rattle.records.specs.Codecs.{pair, number}
 use Rattle.records.specs.declared.requests.Request.the-variants.{Replace}
 use native.Mathlib.Omega.{arith}
 use Rattle.records.specs.Wire.{active}
@@ -11,73 +10,51 @@ use Rattle.records.proofs.Feeds.{active-part, replace-right}
 use borrow.Author.Needs.{needs}
 use Rattle.records.proofs.requests.read_replace.Statement.{statement}
 use Rattle.records.proofs.requests.read_replace.Tie as tie
-use Rattle.records.proofs.requests.read_replace.Reads as reads
-use Rattle.records.proofs.requests.read_replace.Lts as lts
-use Rattle.records.proofs.bodies.active_made.Reads as active-made-reads
-use Rattle.records.proofs.bodies.active_right.Reads as active-right-reads
-use Rattle.records.proofs.fields.u16_at.Reads as u16-at-reads
-use Rattle.records.proofs.fields.u32_at.Reads as u32-at-reads
-use Rattle.records.proofs.fields.u64_at.Reads as u64-at-reads
 
--- src/requests.rt:147:9
 returns : tie.Need-returns
 returns c = is-miscounted (numbered replacement) (asked Replace) BadField (now (c .before .before .args .s)) (λ e. omega (arith, e, c .if1 .taken))
 
--- src/requests.rt:149:8
 sub-if2 : tie.Need-sub-if2
 sub-if2 c = search needs
 
--- src/requests.rt:149:26
 u16-at-requires : tie.Need-u16-at-requires
 u16-at-requires c κs = search needs
 
--- src/requests.rt:149:26
 cast-if2 : tie.Need-cast-if2
 cast-if2 c = search needs
 
--- src/requests.rt:149:25
 mul-if2 : tie.Need-mul-if2
 mul-if2 c = search needs
 
--- src/requests.rt:150:9
 returns-2 : tie.Need-returns-2
 returns-2 c =
     is-miscounted (numbered replacement) (asked Replace) BadField (now (c .before .before .before .before .args .s))
     (λ e. c .if2 .taken (omega (arith, e, c .before .u16-at .ensures)))
 
--- src/requests.rt:152:16
 sub-body : tie.Need-sub-body
 sub-body c = search needs
 
--- src/requests.rt:152:16
 part-body-start : tie.Need-part-body-start
 part-body-start c = search needs
 
--- src/requests.rt:152:16
 part-body-end : tie.Need-part-body-end
 part-body-end c = search needs
 
--- src/requests.rt:153:8
 active-right-requires : tie.Need-active-right-requires
 active-right-requires c κs = search needs
 
--- src/requests.rt:155:19
 active-made-requires : tie.Need-active-made-requires
 active-made-requires c κs = search needs
 
--- src/requests.rt:156:21
 u64-at-requires : tie.Need-u64-at-requires
 u64-at-requires c κs = search needs
 
--- src/requests.rt:157:22
 u32-at-requires : tie.Need-u32-at-requires
 u32-at-requires c κs = search needs
 
--- src/requests.rt:159:28
 u32-at-requires-2 : tie.Need-u32-at-requires-2
 u32-at-requires-2 c κs = search needs
 
--- src/requests.rt:159:9
 returns-3 : tie.Need-returns-3
 returns-3 c =
     let s = now (c .before .before .before .before .before .before .before .before .before .before .before .args .s) in
@@ -92,7 +69,6 @@ returns-3 c =
       },
     ))
 
--- src/requests.rt:143:1
 returns-4 : tie.Need-returns-4
 returns-4 c =
     let s = now (c .before .before .before .before .before .before .before .args .s) in

@@ -6,10 +6,6 @@ use denote.Ref.{now}
 use Rattle.records.proofs.Feeds.{firstWords, word-more, words-all}
 use Rattle.records.proofs.requests.words_of.Statement.{statement}
 use Rattle.records.proofs.requests.words_of.Tie as tie
-use Rattle.records.proofs.requests.words_of.Reads as reads
-use Rattle.records.proofs.requests.words_of.Lts as lts
-use Rattle.records.proofs.fields.big64_at.Reads as big64-at-reads
-use Rattle.records.proofs.requests.word_count.Reads as word-count-reads
 
 abbrev Inv-loop : tie.InvT-loop
 Inv-loop s n words₀ i₀ words i = (i ≤ n) × (words ≡ firstWords i s)
@@ -17,43 +13,33 @@ Inv-loop s n words₀ i₀ words i = (i ≤ n) × (words ≡ firstWords i s)
 abbrev μ-loop : tie.MeasureT-loop
 μ-loop s n words₀ i₀ words i = n - i
 
--- src/requests.rt:204:9
 word-count-requires : tie.Need-word-count-requires Inv-loop μ-loop
 word-count-requires c κs = search needs
 
--- src/requests.rt:207:5
 loop-holds : tie.Need-loop-holds Inv-loop μ-loop
 loop-holds c = (omega arith, refl)
 
--- src/requests.rt:208:40
 mul-big64-at : tie.Need-mul-big64-at Inv-loop μ-loop
 mul-big64-at c = search needs
 
--- src/requests.rt:208:20
 big64-at-requires : tie.Need-big64-at-requires Inv-loop μ-loop
 big64-at-requires c κs = search needs
 
--- src/requests.rt:208:9
 mul-words : tie.Need-mul-words Inv-loop μ-loop
 mul-words c = search needs
 
--- src/requests.rt:208:9
 array-write-words : tie.Need-array-write-words Inv-loop μ-loop
 array-write-words c = search needs
 
--- src/requests.rt:209:9
 add-i : tie.Need-add-i Inv-loop μ-loop
 add-i c = search needs
 
--- src/requests.rt:207:5
 loop-less : tie.Need-loop-less Inv-loop μ-loop
 loop-less c = search needs
 
--- src/requests.rt:207:5
 loop-again : tie.Need-loop-again Inv-loop μ-loop
 loop-again c = (omega (arith, c .before .loop-test .taken), word-more (c .before .before .loop .i) (now (c .before .before .before .before .before .args .s)) (c .before .before .loop .words) (c .big64-at .result) (omega (arith, c .before .before .before .word-count .ensures)) (c .before .before .loop .inv .1) (c .big64-at .ensures))
 
--- src/requests.rt:201:1
 returns : tie.Need-returns Inv-loop μ-loop
 returns c = words-all (c .before .loop .i) (c .before .before .word-count .result) (now (c .before .before .before .before .args .s)) (c .before .loop .words) (c .before .loop .inv .1) (c .before .loop .inv .0) (c .loop-test .left) (c .before .before .word-count .ensures)
 

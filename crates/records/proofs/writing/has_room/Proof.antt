@@ -5,16 +5,12 @@ use borrow.Author.Tests.{lt-leb}
 use Rattle.records.proofs.Storing.{from-end}
 use Rattle.records.proofs.writing.has_room.Statement.{statement}
 use Rattle.records.proofs.writing.has_room.Tie as tie
-use Rattle.records.proofs.writing.has_room.Reads as reads
-use Rattle.records.proofs.writing.has_room.Lts as lts
 
--- src/writing.rt:122:9
 returns : tie.Need-returns
 returns c =
     let a = c .before .args in
     sym (lt-leb (a .at + a .size) (a .len) (omega (arith, c .if1 .taken)))
 
--- src/writing.rt:118:1
 returns-2 : tie.Need-returns-2
 returns-2 c = from-end (c .before .args .at) (c .before .args .size) (c .before .args .len) (c .if1 .left)
 

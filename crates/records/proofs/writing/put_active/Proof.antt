@@ -1,4 +1,4 @@
-use mathlib.Core.Path.{refl, sym, _∙_}
+use mathlib.Core.Path.{refl}
 use Prim.Native.Nat.{_+_, _-_}
 use lib.ListN.{length}
 use native.Mathlib.Omega.{arith}
@@ -10,64 +10,48 @@ use Rattle.records.proofs.Storing.{room, no-room, not-stored, record-st
 use borrow.Author.Needs.{needs}
 use Rattle.records.proofs.writing.put_active.Statement.{statement}
 use Rattle.records.proofs.writing.put_active.Tie as tie
-use Rattle.records.proofs.writing.put_active.Reads as reads
-use Rattle.records.proofs.writing.put_active.Lts as lts
-use Rattle.records.proofs.writing.has_room.Reads as has-room-reads
-use Rattle.records.proofs.writing.put_active_body.Reads as put-active-body-reads
-use Rattle.records.proofs.writing.put_frame.Reads as put-frame-reads
 
--- src/writing.rt:151:9
 has-room-requires : tie.Need-has-room-requires
 has-room-requires c κs = search needs
 
--- src/writing.rt:152:9
 returns : tie.Need-returns
 unfolding lengthOf rowOf rows
 returns c =
     let a = c .before .before .before .args in
     not-stored active active-lawful 2 refl (now (a .out)) (a .at) (a .a) (no-room (c .before .has-room .result) (a .at + 91) (length (now (a .out))) (c .before .has-room .ensures) (c .if1 .taken))
 
--- src/writing.rt:154:5
 put-frame-requires : tie.Need-put-frame-requires
 put-frame-requires c κs =
     let a = c .before .before .before .before .args in
     omega (arith, room (c .before .before .has-room .result) (a .at + 91) (length (now (a .out))) (c .before .before .has-room .ensures) (c .before .if1 .left))
 
--- src/writing.rt:155:13
 add-b : tie.Need-add-b
 add-b c =
     let a = c .before .before .before .before .before .before .before .args in
     omega (arith, c .before .before .before .before .before .before .before .good, c .before .before .put-frame .kept, room (c .before .before .before .before .before .has-room .result) (a .at + 91) (length (now (a .out))) (c .before .before .before .before .before .has-room .ensures) (c .before .before .before .before .if1 .left))
 
--- src/writing.rt:156:13
 add-e : tie.Need-add-e
 add-e c =
     let a = c .before .before .before .before .before .before .before .args in
     omega (arith, c .before .before .before .before .before .before .before .good, c .before .before .put-frame .kept, room (c .before .before .before .before .before .has-room .result) (a .at + 91) (length (now (a .out))) (c .before .before .before .before .before .has-room .ensures) (c .before .before .before .before .if1 .left))
 
--- src/writing.rt:157:21
 sub-put-active-body : tie.Need-sub-put-active-body
 sub-put-active-body c = search needs
 
--- src/writing.rt:157:21
 part-put-active-body-start : tie.Need-part-put-active-body-start
 part-put-active-body-start c = search needs
 
--- src/writing.rt:157:21
 part-put-active-body-end : tie.Need-part-put-active-body-end
 part-put-active-body-end c =
     let a = c .before .before .before .before .before .before .before .args in
     omega (arith, c .before .before .before .before .before .before .before .good, c .before .before .put-frame .kept, room (c .before .before .before .before .before .has-room .result) (a .at + 91) (length (now (a .out))) (c .before .before .before .before .before .has-room .ensures) (c .before .before .before .before .if1 .left))
 
--- src/writing.rt:157:5
 put-active-body-requires : tie.Need-put-active-body-requires
 put-active-body-requires c κs = search needs
 
--- src/writing.rt:148:1
 same-length : tie.Need-same-length
 same-length c = search needs
 
--- src/writing.rt:148:1
 returns-2 : tie.Need-returns-2
 unfolding lengthOf rowOf rows
 returns-2 c =

@@ -5,43 +5,28 @@ use Rattle.records.proofs.Storing.{body-stored}
 use borrow.Author.Needs.{needs}
 use Rattle.records.proofs.writing.put_active_body.Statement.{statement}
 use Rattle.records.proofs.writing.put_active_body.Tie as tie
-use Rattle.records.proofs.writing.put_active_body.Reads as reads
-use Rattle.records.proofs.writing.put_active_body.Lts as lts
-use Rattle.records.proofs.fields.put_big64.Reads as put-big64-reads
-use Rattle.records.proofs.fields.put_u64.Reads as put-u64-reads
-use Rattle.records.proofs.fields.put_u8.Reads as put-u8-reads
-use Rattle.records.proofs.writing.flag_of.Reads as flag-of-reads
-use Rattle.records.proofs.writing.put_lock.Reads as put-lock-reads
 
--- src/writing.rt:87:5
 put-lock-requires : tie.Need-put-lock-requires
 put-lock-requires c κs = search needs
 
--- src/writing.rt:88:5
 put-u64-requires : tie.Need-put-u64-requires
 put-u64-requires c κs = search needs
 
--- src/writing.rt:89:29
 flag-of-requires : tie.Need-flag-of-requires
 flag-of-requires c κs = search needs
 
--- src/writing.rt:89:5
 put-u8-requires : tie.Need-put-u8-requires
 put-u8-requires c κs = search needs
 
--- src/writing.rt:90:5
 put-big64-requires : tie.Need-put-big64-requires
 put-big64-requires c κs = search needs
 
--- src/writing.rt:91:5
 put-big64-requires-2 : tie.Need-put-big64-requires-2
 put-big64-requires-2 c κs = search needs
 
--- src/writing.rt:83:1
 same-length : tie.Need-same-length
 same-length c = search needs
 
--- src/writing.rt:83:1
 returns : tie.Need-returns
 returns c =
     let a = c .before .before .before .before .before .before .before .before .before .before .before .before .before .before .before .before .before .before .before .before .before .before .args in

@@ -1,4 +1,4 @@
-use mathlib.Core.Path.{refl, sym, _∙_}
+use mathlib.Core.Path.{refl}
 use Prim.Native.Nat.{_+_, _-_}
 use lib.ListN.{length}
 use native.Mathlib.Omega.{arith}
@@ -10,64 +10,48 @@ use Rattle.records.proofs.Storing.{room, no-room, not-stored, record-st
 use borrow.Author.Needs.{needs}
 use Rattle.records.proofs.writing.put_defunct.Statement.{statement}
 use Rattle.records.proofs.writing.put_defunct.Tie as tie
-use Rattle.records.proofs.writing.put_defunct.Reads as reads
-use Rattle.records.proofs.writing.put_defunct.Lts as lts
-use Rattle.records.proofs.writing.has_room.Reads as has-room-reads
-use Rattle.records.proofs.writing.put_defunct_body.Reads as put-defunct-body-reads
-use Rattle.records.proofs.writing.put_frame.Reads as put-frame-reads
 
--- src/writing.rt:163:9
 has-room-requires : tie.Need-has-room-requires
 has-room-requires c κs = search needs
 
--- src/writing.rt:164:9
 returns : tie.Need-returns
 unfolding lengthOf rowOf rows
 returns c =
     let a = c .before .before .before .args in
     not-stored defunct defunct-lawful 3 refl (now (a .out)) (a .at) (a .d) (no-room (c .before .has-room .result) (a .at + 104) (length (now (a .out))) (c .before .has-room .ensures) (c .if1 .taken))
 
--- src/writing.rt:166:5
 put-frame-requires : tie.Need-put-frame-requires
 put-frame-requires c κs =
     let a = c .before .before .before .before .args in
     omega (arith, room (c .before .before .has-room .result) (a .at + 104) (length (now (a .out))) (c .before .before .has-room .ensures) (c .before .if1 .left))
 
--- src/writing.rt:167:13
 add-b : tie.Need-add-b
 add-b c =
     let a = c .before .before .before .before .before .before .before .args in
     omega (arith, c .before .before .before .before .before .before .before .good, c .before .before .put-frame .kept, room (c .before .before .before .before .before .has-room .result) (a .at + 104) (length (now (a .out))) (c .before .before .before .before .before .has-room .ensures) (c .before .before .before .before .if1 .left))
 
--- src/writing.rt:168:13
 add-e : tie.Need-add-e
 add-e c =
     let a = c .before .before .before .before .before .before .before .args in
     omega (arith, c .before .before .before .before .before .before .before .good, c .before .before .put-frame .kept, room (c .before .before .before .before .before .has-room .result) (a .at + 104) (length (now (a .out))) (c .before .before .before .before .before .has-room .ensures) (c .before .before .before .before .if1 .left))
 
--- src/writing.rt:169:22
 sub-put-defunct-body : tie.Need-sub-put-defunct-body
 sub-put-defunct-body c = search needs
 
--- src/writing.rt:169:22
 part-put-defunct-body-start : tie.Need-part-put-defunct-body-start
 part-put-defunct-body-start c = search needs
 
--- src/writing.rt:169:22
 part-put-defunct-body-end : tie.Need-part-put-defunct-body-end
 part-put-defunct-body-end c =
     let a = c .before .before .before .before .before .before .before .args in
     omega (arith, c .before .before .before .before .before .before .before .good, c .before .before .put-frame .kept, room (c .before .before .before .before .before .has-room .result) (a .at + 104) (length (now (a .out))) (c .before .before .before .before .before .has-room .ensures) (c .before .before .before .before .if1 .left))
 
--- src/writing.rt:169:5
 put-defunct-body-requires : tie.Need-put-defunct-body-requires
 put-defunct-body-requires c κs = search needs
 
--- src/writing.rt:160:1
 same-length : tie.Need-same-length
 same-length c = search needs
 
--- src/writing.rt:160:1
 returns-2 : tie.Need-returns-2
 unfolding lengthOf rowOf rows
 returns-2 c =

@@ -5,47 +5,31 @@ use Rattle.records.proofs.Storing.{body-stored}
 use borrow.Author.Needs.{needs}
 use Rattle.records.proofs.writing.put_defunct_body.Statement.{statement}
 use Rattle.records.proofs.writing.put_defunct_body.Tie as tie
-use Rattle.records.proofs.writing.put_defunct_body.Reads as reads
-use Rattle.records.proofs.writing.put_defunct_body.Lts as lts
-use Rattle.records.proofs.fields.put_big64.Reads as put-big64-reads
-use Rattle.records.proofs.fields.put_u16.Reads as put-u16-reads
-use Rattle.records.proofs.fields.put_u32.Reads as put-u32-reads
-use Rattle.records.proofs.fields.put_u64.Reads as put-u64-reads
-use Rattle.records.proofs.writing.put_lock.Reads as put-lock-reads
 
--- src/writing.rt:98:5
 put-lock-requires : tie.Need-put-lock-requires
 put-lock-requires c κs = search needs
 
--- src/writing.rt:99:5
 put-u64-requires : tie.Need-put-u64-requires
 put-u64-requires c κs = search needs
 
--- src/writing.rt:100:5
 put-u64-requires-2 : tie.Need-put-u64-requires-2
 put-u64-requires-2 c κs = search needs
 
--- src/writing.rt:101:5
 put-u32-requires : tie.Need-put-u32-requires
 put-u32-requires c κs = search needs
 
--- src/writing.rt:102:5
 put-big64-requires : tie.Need-put-big64-requires
 put-big64-requires c κs = search needs
 
--- src/writing.rt:103:5
 put-big64-requires-2 : tie.Need-put-big64-requires-2
 put-big64-requires-2 c κs = search needs
 
--- src/writing.rt:104:5
 put-u16-requires : tie.Need-put-u16-requires
 put-u16-requires c κs = search needs
 
--- src/writing.rt:94:1
 same-length : tie.Need-same-length
 same-length c = search needs
 
--- src/writing.rt:94:1
 returns : tie.Need-returns
 returns c =
     let a = c .before .before .before .before .before .before .before .before .before .before .before .before .before .before .before .before .before .before .before .before .before .before .before .before .before .before .before .before .before .args in

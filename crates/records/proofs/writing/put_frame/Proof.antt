@@ -1,36 +1,25 @@
-use native.Mathlib.Omega.{arith}
 use denote.Ref.{now}
 use Rattle.records.specs.Table.{lengthOf}
 use Rattle.records.proofs.Storing.{frame-stored}
 use borrow.Author.Needs.{needs}
 use Rattle.records.proofs.writing.put_frame.Statement.{statement}
 use Rattle.records.proofs.writing.put_frame.Tie as tie
-use Rattle.records.proofs.writing.put_frame.Reads as reads
-use Rattle.records.proofs.writing.put_frame.Lts as lts
-use Rattle.records.proofs.fields.put_u16.Reads as put-u16-reads
-use Rattle.records.proofs.kinds.length_of.Reads as length-of-reads
 
--- src/writing.rt:132:30
 length-of-requires : tie.Need-length-of-requires
 length-of-requires c κs = search needs
 
--- src/writing.rt:132:5
 put-u16-requires : tie.Need-put-u16-requires
 put-u16-requires c κs = search needs
 
--- src/writing.rt:133:26
 add-put-u16 : tie.Need-add-put-u16
 add-put-u16 c = search needs
 
--- src/writing.rt:133:5
 put-u16-requires-2 : tie.Need-put-u16-requires-2
 put-u16-requires-2 c κs = search needs
 
--- src/writing.rt:128:1
 same-length : tie.Need-same-length
 same-length c = search needs
 
--- src/writing.rt:128:1
 returns : tie.Need-returns
 returns c =
     let a = c .before .before .before .before .before .before .before .before .before .before .args in

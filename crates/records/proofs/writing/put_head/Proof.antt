@@ -1,4 +1,4 @@
-use mathlib.Core.Path.{refl, sym, _∙_}
+use mathlib.Core.Path.{refl}
 use Prim.Native.Nat.{_+_, _-_}
 use lib.ListN.{length}
 use native.Mathlib.Omega.{arith}
@@ -10,64 +10,48 @@ use Rattle.records.proofs.Storing.{room, no-room, not-stored, record-st
 use borrow.Author.Needs.{needs}
 use Rattle.records.proofs.writing.put_head.Statement.{statement}
 use Rattle.records.proofs.writing.put_head.Tie as tie
-use Rattle.records.proofs.writing.put_head.Reads as reads
-use Rattle.records.proofs.writing.put_head.Lts as lts
-use Rattle.records.proofs.writing.has_room.Reads as has-room-reads
-use Rattle.records.proofs.writing.put_frame.Reads as put-frame-reads
-use Rattle.records.proofs.writing.put_head_body.Reads as put-head-body-reads
 
--- src/writing.rt:139:9
 has-room-requires : tie.Need-has-room-requires
 has-room-requires c κs = search needs
 
--- src/writing.rt:140:9
 returns : tie.Need-returns
 unfolding lengthOf rowOf rows
 returns c =
     let a = c .before .before .before .args in
     not-stored head head-lawful 1 refl (now (a .out)) (a .at) (a .h) (no-room (c .before .has-room .result) (a .at + 20) (length (now (a .out))) (c .before .has-room .ensures) (c .if1 .taken))
 
--- src/writing.rt:142:5
 put-frame-requires : tie.Need-put-frame-requires
 put-frame-requires c κs =
     let a = c .before .before .before .before .args in
     omega (arith, room (c .before .before .has-room .result) (a .at + 20) (length (now (a .out))) (c .before .before .has-room .ensures) (c .before .if1 .left))
 
--- src/writing.rt:143:13
 add-b : tie.Need-add-b
 add-b c =
     let a = c .before .before .before .before .before .before .before .args in
     omega (arith, c .before .before .before .before .before .before .before .good, c .before .before .put-frame .kept, room (c .before .before .before .before .before .has-room .result) (a .at + 20) (length (now (a .out))) (c .before .before .before .before .before .has-room .ensures) (c .before .before .before .before .if1 .left))
 
--- src/writing.rt:144:13
 add-e : tie.Need-add-e
 add-e c =
     let a = c .before .before .before .before .before .before .before .args in
     omega (arith, c .before .before .before .before .before .before .before .good, c .before .before .put-frame .kept, room (c .before .before .before .before .before .has-room .result) (a .at + 20) (length (now (a .out))) (c .before .before .before .before .before .has-room .ensures) (c .before .before .before .before .if1 .left))
 
--- src/writing.rt:145:19
 sub-put-head-body : tie.Need-sub-put-head-body
 sub-put-head-body c = search needs
 
--- src/writing.rt:145:19
 part-put-head-body-start : tie.Need-part-put-head-body-start
 part-put-head-body-start c = search needs
 
--- src/writing.rt:145:19
 part-put-head-body-end : tie.Need-part-put-head-body-end
 part-put-head-body-end c =
     let a = c .before .before .before .before .before .before .before .args in
     omega (arith, c .before .before .before .before .before .before .before .good, c .before .before .put-frame .kept, room (c .before .before .before .before .before .has-room .result) (a .at + 20) (length (now (a .out))) (c .before .before .before .before .before .has-room .ensures) (c .before .before .before .before .if1 .left))
 
--- src/writing.rt:145:5
 put-head-body-requires : tie.Need-put-head-body-requires
 put-head-body-requires c κs = search needs
 
--- src/writing.rt:136:1
 same-length : tie.Need-same-length
 same-length c = search needs
 
--- src/writing.rt:136:1
 returns-2 : tie.Need-returns-2
 unfolding lengthOf rowOf rows
 returns-2 c =

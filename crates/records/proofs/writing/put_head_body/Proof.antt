@@ -5,33 +5,22 @@ use Rattle.records.proofs.Storing.{body-stored}
 use borrow.Author.Needs.{needs}
 use Rattle.records.proofs.writing.put_head_body.Statement.{statement}
 use Rattle.records.proofs.writing.put_head_body.Tie as tie
-use Rattle.records.proofs.writing.put_head_body.Reads as reads
-use Rattle.records.proofs.writing.put_head_body.Lts as lts
-use Rattle.records.proofs.fields.put_u16.Reads as put-u16-reads
-use Rattle.records.proofs.fields.put_u32.Reads as put-u32-reads
-use Rattle.records.proofs.fields.put_u64.Reads as put-u64-reads
 
--- src/writing.rt:111:5
 put-u64-requires : tie.Need-put-u64-requires
 put-u64-requires c κs = search needs
 
--- src/writing.rt:112:5
 put-u32-requires : tie.Need-put-u32-requires
 put-u32-requires c κs = search needs
 
--- src/writing.rt:113:5
 put-u16-requires : tie.Need-put-u16-requires
 put-u16-requires c κs = search needs
 
--- src/writing.rt:114:5
 put-u16-requires-2 : tie.Need-put-u16-requires-2
 put-u16-requires-2 c κs = search needs
 
--- src/writing.rt:107:1
 same-length : tie.Need-same-length
 same-length c = search needs
 
--- src/writing.rt:107:1
 returns : tie.Need-returns
 returns c =
     let a = c .before .before .before .before .before .before .before .before .before .before .before .before .before .before .before .before .before .args in

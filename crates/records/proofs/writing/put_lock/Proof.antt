@@ -1,38 +1,25 @@
 use borrow.Author.Needs.{needs}
 use Rattle.records.proofs.writing.put_lock.Statement.{statement}
 use Rattle.records.proofs.writing.put_lock.Tie as tie
-use Rattle.records.proofs.writing.put_lock.Reads as reads
-use Rattle.records.proofs.writing.put_lock.Lts as lts
-use Rattle.records.proofs.fields.put_u16.Reads as put-u16-reads
-use Rattle.records.proofs.fields.put_u32.Reads as put-u32-reads
-use Rattle.records.proofs.writing.put_set.Reads as put-set-reads
-use Rattle.records.proofs.writing.put_start.Reads as put-start-reads
 
--- src/writing.rt:75:5
 put-start-requires : tie.Need-put-start-requires
 put-start-requires c κs = search needs
 
--- src/writing.rt:76:5
 put-set-requires : tie.Need-put-set-requires
 put-set-requires c κs = search needs
 
--- src/writing.rt:77:5
 put-u16-requires : tie.Need-put-u16-requires
 put-u16-requires c κs = search needs
 
--- src/writing.rt:78:5
 put-u32-requires : tie.Need-put-u32-requires
 put-u32-requires c κs = search needs
 
--- src/writing.rt:79:5
 put-u32-requires-2 : tie.Need-put-u32-requires-2
 put-u32-requires-2 c κs = search needs
 
--- src/writing.rt:71:1
 same-length : tie.Need-same-length
 same-length c = search needs
 
--- src/writing.rt:71:1
 returns : tie.Need-returns
 returns c =
     rw (c .before .before .put-u322 .ensures, c .before .before .before .before .before .before .put-u32 .ensures, c .before .before .before .before .before .before .before .before .before .before .put-u16 .ensures, c .before .before .before .before .before .before .before .before .before .before .before .before .before .before .put-set .ensures, c .before .before .before .before .before .before .before .before .before .before .before .before .before .before .before .before .before .before .put-start .ensures)

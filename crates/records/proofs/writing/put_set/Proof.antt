@@ -1,31 +1,22 @@
 use borrow.Author.Needs.{needs}
 use Rattle.records.proofs.writing.put_set.Statement.{statement}
 use Rattle.records.proofs.writing.put_set.Tie as tie
-use Rattle.records.proofs.writing.put_set.Reads as reads
-use Rattle.records.proofs.writing.put_set.Lts as lts
-use Rattle.records.proofs.fields.put_u64.Reads as put-u64-reads
 
--- src/writing.rt:65:5
 put-u64-requires : tie.Need-put-u64-requires
 put-u64-requires c κs = search needs
 
--- src/writing.rt:66:5
 put-u64-requires-2 : tie.Need-put-u64-requires-2
 put-u64-requires-2 c κs = search needs
 
--- src/writing.rt:67:5
 put-u64-requires-3 : tie.Need-put-u64-requires-3
 put-u64-requires-3 c κs = search needs
 
--- src/writing.rt:68:5
 put-u64-requires-4 : tie.Need-put-u64-requires-4
 put-u64-requires-4 c κs = search needs
 
--- src/writing.rt:61:1
 same-length : tie.Need-same-length
 same-length c = search needs
 
--- src/writing.rt:61:1
 returns : tie.Need-returns
 returns c = rw (c .before .before .put-u644 .ensures, c .before .before .before .before .before .before .put-u643 .ensures, c .before .before .before .before .before .before .before .before .before .before .put-u642 .ensures, c .before .before .before .before .before .before .before .before .before .before .before .before .before .before .put-u64 .ensures)
 

@@ -1,59 +1,40 @@
 use borrow.Author.Needs.{needs}
 use Rattle.records.proofs.writing.put_start.Statement.{statement}
 use Rattle.records.proofs.writing.put_start.Tie as tie
-use Rattle.records.proofs.writing.put_start.Reads as reads
-use Rattle.records.proofs.writing.put_start.Lts as lts
-use Rattle.records.proofs.fields.put_big64.Reads as put-big64-reads
-use Rattle.records.proofs.fields.put_u8.Reads as put-u8-reads
-use Rattle.records.proofs.writing.flag_of.Reads as flag-of-reads
-use Rattle.records.proofs.writing.scope_kind.Reads as scope-kind-reads
-use Rattle.records.proofs.writing.scope_number.Reads as scope-number-reads
 
--- src/writing.rt:53:5
 put-big64-requires : tie.Need-put-big64-requires
 put-big64-requires c κs = search needs
 
--- src/writing.rt:54:5
 put-big64-requires-2 : tie.Need-put-big64-requires-2
 put-big64-requires-2 c κs = search needs
 
--- src/writing.rt:55:29
 scope-kind-requires : tie.Need-scope-kind-requires
 scope-kind-requires c κs = search needs
 
--- src/writing.rt:55:5
 put-u8-requires : tie.Need-put-u8-requires
 put-u8-requires c κs = search needs
 
--- src/writing.rt:56:29
 scope-number-requires : tie.Need-scope-number-requires
 scope-number-requires c κs = search needs
 
--- src/writing.rt:56:5
 put-u8-requires-2 : tie.Need-put-u8-requires-2
 put-u8-requires-2 c κs = search needs
 
--- src/writing.rt:57:29
 flag-of-requires : tie.Need-flag-of-requires
 flag-of-requires c κs = search needs
 
--- src/writing.rt:57:5
 put-u8-requires-3 : tie.Need-put-u8-requires-3
 put-u8-requires-3 c κs = search needs
 
--- src/writing.rt:58:29
 flag-of-requires-2 : tie.Need-flag-of-requires-2
 flag-of-requires-2 c κs = search needs
 
--- src/writing.rt:58:5
 put-u8-requires-4 : tie.Need-put-u8-requires-4
 put-u8-requires-4 c κs = search needs
 
--- src/writing.rt:48:1
 same-length : tie.Need-same-length
 same-length c = search needs
 
--- src/writing.rt:48:1
 returns : tie.Need-returns
 returns c =
     rw (
