@@ -23,7 +23,7 @@ use Rattle.records.specs.Codecs.{Codec, inBody, decodeBy}
 use Rattle.records.specs.Table.{atHead}
 use Rattle.records.specs.Framing.{frameAt}
 use Rattle.records.specs.Wire as wire
-use Rattle.records.proofs.Codecs.{accepted}
+use Rattle.records.proofs.Codecs.{passed}
 use Rattle.rules.specs.declared.Verdict.{Verdict}
 use Rattle.rules.specs.Rules.{brokenRule}
 use Rattle.image.specs.declared.Imaged.{Imaged}
@@ -83,7 +83,8 @@ module _ {R : Type 0} (c : Codec R) (due : ℕ) (s : List ℕ) (at : ℕ) where
   taken-of (F.BadKind x) r next q e = absurd (let z : _≡_ {A = ℕ} 0 1 = cc in omega arith)
   taken-of (F.BadField x) r next q e = absurd (let z : _≡_ {A = ℕ} 0 1 = cc in omega arith)
   taken-of (F.Record f) r next q e =
-      let a = accepted c (λ (x : R). got x (f .next)) (stopped (BadField at)) (part s (f .start) (f .size)) (got r next) (λ z. let y : _≡_ {A = ℕ} 0 1 = cc in omega arith) e in
+      let b : List ℕ = part s (f .start) (f .size) in
+      let a = passed (length b) (total (c .layout)) (c .right (inBody c b)) (got (c .made (inBody c b)) (f .next)) (stopped (BadField at)) (got r next) (λ z. let y : _≡_ {A = ℕ} 0 1 = cc in omega arith) e in
       record { frame = f; framed = q; size = a .0; right = a .1; made = got-one (a .2) .0; after = got-one (a .2) .1 }
     where
       got-one : {x y : R} {m n : ℕ} → got x m ≡ got y n → (x ≡ y) × (m ≡ n)
@@ -103,12 +104,12 @@ head-counts s at next h e =
     )
 
 -- ---- a run that was read: its first record, and the others
-then-got : {A B : Type 0} (o : Got A) (f : A → ℕ → Got B) (b : B) (n : ℕ) → andThen o f ≡ got b n → (a : A) × (m : ℕ) × (o ≡ got a m) × (f a m ≡ got b n)
+pub then-got : {A B : Type 0} (o : Got A) (f : A → ℕ → Got B) (b : B) (n : ℕ) → andThen o f ≡ got b n → (a : A) × (m : ℕ) × (o ≡ got a m) × (f a m ≡ got b n)
 unfolding andThen
 then-got (stopped x) f b n e = absurd (let z : _≡_ {A = ℕ} 0 1 = cc in omega arith)
 then-got (got a m) f b n e = (a, m, refl, e)
 
-cond-got : {A : Type 0} (c : Bool) (x : Reading) (g : Got A) (a : A) (n : ℕ) → cond c (stopped x) g ≡ got a n → No c × (g ≡ got a n)
+pub cond-got : {A : Type 0} (c : Bool) (x : Reading) (g : Got A) (a : A) (n : ℕ) → cond c (stopped x) g ≡ got a n → No c × (g ≡ got a n)
 cond-got true x g a n e = absurd (let z : _≡_ {A = ℕ} 0 1 = cc in omega arith)
 cond-got false x g a n e = (refl, e)
 
@@ -134,7 +135,7 @@ module _ {R : Type 0} (e : Listed R) (s : List ℕ) where
       let v = ahead-got (w .0) (runAt e s n (suc (e .id (w .0))) (w .1)) l m (u .1) in
       record { one = w .0; next = w .1; rest = v .0; read = w .2; order = u .0; others = v .1; all = v .2 }
 
-  none : (low at : ℕ) (l : List R) (m : ℕ) → runAt e s 0 low at ≡ got l m → (l ≡ []) × (m ≡ at)
+  pub none : (low at : ℕ) (l : List R) (m : ℕ) → runAt e s 0 low at ≡ got l m → (l ≡ []) × (m ≡ at)
   unfolding runAt
   none low at l m q = (cc, cc)
 

@@ -2,3 +2,6 @@ pub mod Stepping
 pub mod Running
 pub mod Halves
 pub mod Writes
+pub mod There
+pub mod Back
+pub mod Trips
