@@ -122,13 +122,14 @@ held-back s y x end e =
     let nd = run-length defunctList s (h .defuncts) 0 (v .1) (u .0) (u .1) (u .2) in
     let same : headOf (heldOf h (v .0) (u .0) .model) (h .expected) ≡ h = λ i. record { revision = h .revision; expected = h .expected; actives = na i; defuncts = nd i } in
     let told = told-one (c .1) in
-    let full : u .1 ≡ length s = omega (arith, dd .within, ltb-false (u .1) (length s) (c .0)) in
-    (ap (λ (z : Held). imageOf (z .model) (z .expected)) (sym (told .0))
-    ∙ ap (λ (z : Head). recordOf 1 (encodeBy wire.head z) ++ (bytesOfRun activeList (v .0) ++ bytesOfRun defunctList (u .0))) same
-    ∙ whole-of s (h .actives * 91) (h .defuncts * 104) _ _ _ (ho .bytes) (ap (λ (z : ℕ). part s z (h .actives * 91)) (sym (ho .after)) ∙ ao .bytes)
-    (ap (λ (z : ℕ). part s z (h .defuncts * 104)) (let z : 20 + h .actives * 91 ≡ v .1 = omega (arith, ao .after, ho .after) in z) ∙ dd .bytes)
-    (omega (arith, ho .after, ao .after, dd .after, full)),
-    sym (told .1) ∙ full)
+    let full : u .1 ≡ length s = omega (arith, dd .within, ltb-false (u .1) (length s) (c .0)) in (
+      ap (λ (z : Held). imageOf (z .model) (z .expected)) (sym (told .0))
+          ∙ ap (λ (z : Head). recordOf 1 (encodeBy wire.head z) ++ (bytesOfRun activeList (v .0) ++ bytesOfRun defunctList (u .0))) same
+          ∙ whole-of s (h .actives * 91) (h .defuncts * 104) _ _ _ (ho .bytes) (ap (λ (z : ℕ). part s z (h .actives * 91)) (sym (ho .after)) ∙ ao .bytes)
+          (ap (λ (z : ℕ). part s z (h .defuncts * 104)) (let z : 20 + h .actives * 91 ≡ v .1 = omega (arith, ao .after, ho .after) in z) ∙ dd .bytes)
+          (omega (arith, ho .after, ao .after, dd .after, full)),
+      sym (told .1) ∙ full,
+    )
   where
     told-one : {a b : Held} {m n : ℕ} → got a m ≡ got b n → (a ≡ b) × (m ≡ n)
     told-one q = (cc, cc)

@@ -68,6 +68,17 @@ module _ {R : Type 0} (e : Listed R) (s : List ℕ) where
   run-fault (suc n) low at = then-fault (recordAt (e .codec) (e .place) s at) _ (record-fault (e .codec) (e .place) s at)
       (λ r next. cond-both Fault (stopped (BadOrder at)) (ahead e r (runAt e s n (suc (e .id r)) next)) (ltb (e .id r) low) (λ t. refl) (λ t. ahead-fault r (runAt e s n (suc (e .id r)) next) (run-fault n (suc (e .id r)) next)))
 
+module _ (s : List ℕ) where
+  lists-fault : (h : Head) (at : ℕ) → Fault (listsAt s h at)
+  unfolding listsAt
+  lists-fault h at = then-fault (runAt activeList s (h .actives) 0 at) _ (run-fault activeList s (h .actives) 0 at)
+      (λ xs next. then-fault (runAt defunctList s (h .defuncts) 0 next) _ (run-fault defunctList s (h .defuncts) 0 next)
+      (λ ys end. cond-both Fault (stopped (BadOrder end)) (got (heldOf h xs ys) end) (ltb end (length s)) (λ t. refl) (λ t. tt)))
+
+  pub held-fault : (x : Reading) → heldIn s ≡ stopped x → No (isDone x)
+  unfolding heldIn
+  held-fault x e = subst Fault e (then-fault (recordAt wire.head atHead s 0) (listsAt s) (record-fault wire.head atHead s 0) lists-fault)
+
 -- ---- a record that was read: its frame, and its body
 module _ {R : Type 0} (c : Codec R) (due : ℕ) (s : List ℕ) (at : ℕ) where
   pub record Taken (r : R) (next : ℕ) : Type 0 where
@@ -216,7 +227,7 @@ module _ (s : List ℕ) where
   head-failed x e = sym (ap (λ (g : Got Head). imaged (andThen g (listsAt s))) e)
 
 -- ---- then the test
-tested-not : (i : Imaged) (t : Reading) → No (isDone t) → tested i t ≡ i
+pub tested-not : (i : Imaged) (t : Reading) → No (isDone t) → tested i t ≡ i
 tested-not i Done k = absurd (true≢false k)
 tested-not i (Torn x) k = refl
 tested-not i (BadKind x) k = refl
