@@ -5,3 +5,4 @@ pub mod Writes
 pub mod There
 pub mod Back
 pub mod Trips
+pub mod Ranged

@@ -2,6 +2,7 @@
 // SPDX-License-Identifier: Apache-2.0
 use state::LockState;
 
+mod ranges;
 pub mod read;
 pub mod reader;
 pub mod write;
