@@ -17,7 +17,7 @@ use Rattle.records.proofs.Numbers.{Bytes}
 use Rattle.records.proofs.Layouts.{length-pack, fields-in, fields-pack, pack-fields, fields-fit, fields-append, length-fields}
 
 -- two tests that were passed: of a number, and of the numbers
-passed : {A : Type 0} (m n : ℕ) (y : Bool) (g b a : A) → (b ≡ a → ⊥) → cond (eqb m n and y) g b ≡ a → (m ≡ n) × Yes y × (g ≡ a)
+pub passed : {A : Type 0} (m n : ℕ) (y : Bool) (g b a : A) → (b ≡ a → ⊥) → cond (eqb m n and y) g b ≡ a → (m ≡ n) × Yes y × (g ≡ a)
 passed m n y g b a h e =
     by (eqb m n and y) ((m ≡ n) × Yes y × (g ≡ a))
     (λ t. (eqb-true _ _ (and-l _ y t), and-r _ y t, sym (cond-true (eqb m n and y) g b t) ∙ e))

@@ -1,0 +1,4 @@
+pub mod Image
+pub mod Steps
+pub mod Code
+pub mod Ranges

@@ -1,0 +1,70 @@
+// An image written into a lent buffer.
+// SPDX-License-Identifier: Apache-2.0
+use crate::Spare;
+use crate::Writing;
+use records::bodies::Head;
+use records::writing;
+use rules::Verdict;
+use state::ActiveLock;
+use state::DefunctLock;
+ghost use mathlib.Core.Path.{_≡_};
+ghost use Prim.Native.Nat.{_+_, _*_, _≤_};
+ghost use lib.ListN.{length, take};
+ghost use Rattle.records.specs.Numbers.{splice};
+ghost use Rattle.image.specs.Image.{activeList, defunctList, bytesOfRun, done, writeOn};
+
+fn put_actives(out: &mut [u8], from: usize, locks: [ActiveLock; 64], n: usize)
+    requires { ⌜ (n ≤ 64) × (from + n * 91 ≤ length (now out)) ⌝ }
+    ensures { λ r. ⌜ now (out .exit) ≡ splice (now (out .entry)) from (bytesOfRun activeList (take n locks)) ⌝ }
+{
+    let mut i: usize = 0;
+    while i < n {
+        let a = locks[i];
+        writing::put_active(out, from + i * 91, a);
+        i += 1;
+    }
+}
+
+fn put_defuncts(out: &mut [u8], from: usize, locks: [DefunctLock; 128], n: usize)
+    requires { ⌜ (n ≤ 128) × (from + n * 104 ≤ length (now out)) ⌝ }
+    ensures { λ r. ⌜ now (out .exit) ≡ splice (now (out .entry)) from (bytesOfRun defunctList (take n locks)) ⌝ }
+{
+    let mut i: usize = 0;
+    while i < n {
+        let d = locks[i];
+        writing::put_defunct(out, from + i * 104, d);
+        i += 1;
+    }
+}
+
+// 12, then 21; else the bytes from the buffer's start on. A refusal stores nothing.
+pub fn write_image(spare: Spare, out: &mut [u8]) -> Writing
+    ensures { λ r. ⌜ done r (now (out .exit)) ≡ writeOn spare (now (out .entry)) ⌝ }
+{
+    let state = spare.state;
+    match rules::broken(state) {
+        Verdict::Broken(n) => {
+            return Writing::UnsoundState(n);
+        }
+        Verdict::Sound => {}
+    }
+    let actives = state.actives;
+    let defuncts = state.defuncts;
+    let second = 20 + actives * 91;
+    let needed = second + defuncts * 104;
+    if out.len() < needed {
+        return Writing::ShortOutput(needed);
+    }
+    let head = Head {
+        revision: state.revision,
+        expected: spare.expected,
+        actives: actives as u16,
+        defuncts: defuncts as u16,
+    };
+    writing::put_head(out, 0, head);
+    let active = state.active;
+    put_actives(out, 20, active, actives);
+    let defunct = state.defunct;
+    put_defuncts(out, second, defunct, defuncts);
+    Writing::Done(needed)
+}
