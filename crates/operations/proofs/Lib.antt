@@ -4,6 +4,10 @@ pub mod Leaving
 pub mod Coming
 pub mod Chains
 pub mod Inserting
+pub mod Listing
+pub mod Adopting
+pub mod Ordering
+pub mod Replacing
 pub mod Closing
 pub mod Renewing
 pub mod Papers

@@ -4,5 +4,7 @@ pub mod answers;
 mod checks;
 pub mod insert;
 pub mod renew;
+pub mod replace;
 mod table;
 mod trees;
+pub mod vehicle;
