@@ -11,17 +11,18 @@ use borrow.Author.Tests.{not-true, not-false, eq-eqb, ne-eqb}
 use Rattle.lists.specs.Tests.{_and_, _or_, non}
 use Rattle.lists.specs.Lists.{any, find, filter}
 use Rattle.lists.proofs.Tests.{by, cond-true, cond-false, non-t, non-f, or-code, codes}
+use Rattle.ids.specs.Words.{oddWords}
 use Rattle.coverage.specs.Coverage.{overlap, within}
 use Rattle.state.specs.declared.ActiveLock.{ActiveLock}
 use Rattle.state.specs.declared.DefunctLock.{DefunctLock}
 use Rattle.state.specs.Locks.{isVehicle, hasId, hasIdD}
 use Rattle.lookups.specs.Reads.{onScope}
 use Rattle.operations.specs.declared.answers.Answer.{Answer}
-use Rattle.operations.specs.declared.answers.Answer.the-variants.{Done, DuplicateId, DuplicateScope, ParentNotFound, ParentNotVehicle, CoverageConflict, RevisionOverflow, OtherOwner, NotCovered}
+use Rattle.operations.specs.declared.answers.Answer.the-variants.{Done, DuplicateId, DuplicateScope, ParentNotFound, ParentNotVehicle, CoverageConflict, RevisionOverflow, OtherOwner, NotCovered, BadList}
 use Rattle.operations.specs.declared.checks.Seen.{Seen}
 use Rattle.operations.specs.declared.checks.Seen.the-variants.{Nothing, Lock}
 use Rattle.operations.specs.Answers.{isDone, refuseIf, andThen}
-use Rattle.operations.specs.Checks.{checkId, checkScope, checkParent, checkFound, checkNesting, conflicts, checkConflict, checkClear, checkRevision, atLast, lastRevision, toldChild}
+use Rattle.operations.specs.Checks.{checkList, checkId, checkScope, checkParent, checkFound, checkNesting, conflicts, checkConflict, checkClear, checkRevision, atLast, lastRevision, toldChild}
 use Rattle.operations.specs.Code.{seen, misfit}
 
 -- ---- the combinators
@@ -53,6 +54,21 @@ module _ (a b : Answer) (t : isDone (andThen a b) ≡ true) where
   pub rest-done : isDone b ≡ true
   unfolding andThen
   rest-done = sym (ap isDone (cond-true (isDone a) b a first-done)) ∙ t
+
+-- links of links
+pub and-then : (a b c : Answer) → andThen (andThen a b) c ≡ andThen a (andThen b c)
+unfolding andThen
+and-then a b c = by (isDone a) (cond (isDone (cond (isDone a) b a)) c (cond (isDone a) b a) ≡ cond (isDone a) (cond (isDone b) c b) a) (λ t. rw t) (λ t. rw t (cond-false (isDone a) c a t))
+
+-- ---- 14
+module _ (ws : List ℕ) (b : Bool) (e : b ≡ oddWords ws) where
+  pub list-odd : b ≡ true → BadList ≡ checkList ws
+  unfolding checkList
+  list-odd t = sym (refuse _ _ _ (sym e ∙ t))
+
+  pub list-even : b ≡ false → Done ≡ checkList ws
+  unfolding checkList
+  list-even t = sym (go-on _ _ _ (sym e ∙ t))
 
 -- ---- 1, 2, 8
 module _ (l : List ActiveLock) (t : List DefunctLock) (x : ActiveLock) (p q : Bool) (e : p ≡ any (hasId (x .lock .id)) l) (f : q ≡ any (hasIdD (x .lock .id)) t) where

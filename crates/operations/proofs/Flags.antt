@@ -4,17 +4,18 @@ use mathlib.Core.Bool.{Bool, true, false, cond, _&&_, _||_, true≢false, false�
 use mathlib.Core.List.{List, [], _∷_, _++_, map, append-assoc, List·Memᴰ·head, List·Memᴰ·tail}
 use mathlib.Core.Option.{none, some}
 use mathlib.Core.Path.{_≡_, refl, sym, ap, subst, _∙_}
-use Prim.Native.Nat.{ℕ, zero, suc, _+_, _≤_, _<_}
+use Prim.Native.Nat.{ℕ, zero, suc, _+_, _-_, _≤_, _<_}
 use native.Mathlib.Numerals.{add-one}
 use native.Mathlib.Omega.{arith}
-use lib.ListN.{length, getD, set, take, drop, length-append, length-take, length-drop, length-map}
+use lib.ListN.{length, getD, set, take, drop, replicate, length-append, length-take, length-drop, length-map}
 use native.Mathlib.Decide.{ℕ-discrete}
 use lib.Seq.{slice, slice-empty, drop-cons, set-at, getD-at, take-at, length-take-le, getD-set-same, getD-set-other}
 use Rattle.lists.specs.Tests.{_or_, Yes}
 use Rattle.lists.specs.Lists.{any, filter, find, Mem}
+use Rattle.lists.specs.Places.{inPlaces}
 use Rattle.lists.proofs.Tests.{or-code, or-comm, or-assoc}
 use Rattle.lists.proofs.Loops.{rest-step, more, map-more}
-use Rattle.operations.specs.Code.{flagged, unflagged}
+use Rattle.operations.specs.Code.{flagged, unflagged, altered}
 
 -- one mark more is set
 pub mark-more : (p : ℕ → Bool) (a : List Bool) (i : ℕ) (v : Bool) → i < length a → v ≡ p i → ((j : ℕ) → j < i → getD a j false ≡ p j) → (j : ℕ) → j < i + 1 → getD (set a i v) j false ≡ p j
@@ -146,3 +147,61 @@ module _ {A : Type 0} where
 
   pub mapped-front : (f : A → A) (l : List A) (n : ℕ) → n ≤ length l → take n (mapped f n l) ≡ map f (take n l)
   mapped-front f l n h = take-at (map f (take n l)) (drop n l) n (length-map (take n l) f ∙ length-take-le n l h)
+
+  -- ---- what is marked is changed
+  module _ (g : A → A) where
+    alter-yes : (fs : List Bool) (l : List A) (d : A) → length fs < length l → altered g (fs ++ (true ∷ [])) l ≡ set (altered g fs l) (length fs) (g (getD l (length fs) d))
+    alter-yes [] [] d h = absurd (omega arith)
+    alter-yes [] (x ∷ xs) d h = refl
+    alter-yes (b ∷ bs) [] d h = absurd (omega arith)
+    alter-yes (b ∷ bs) (x ∷ xs) d h = ap (λ (t : List A). cond b (g x) x ∷ t) (alter-yes bs xs d (omega arith))
+
+    alter-no : (fs : List Bool) (l : List A) → altered g (fs ++ (false ∷ [])) l ≡ altered g fs l
+    alter-no [] [] = refl
+    alter-no [] (x ∷ xs) = refl
+    alter-no (b ∷ bs) [] = refl
+    alter-no (b ∷ bs) (x ∷ xs) = ap (λ (t : List A). cond b (g x) x ∷ t) (alter-no bs xs)
+
+    alter-read : (fs : List Bool) (l : List A) (d : A) → getD (altered g fs l) (length fs) d ≡ getD l (length fs) d
+    alter-read [] l d = refl
+    alter-read (b ∷ bs) [] d = refl
+    alter-read (b ∷ bs) (x ∷ xs) d = alter-read bs xs d
+
+    pub alter-long : (fs : List Bool) (l : List A) → length (altered g fs l) ≡ length l
+    alter-long [] l = refl
+    alter-long (b ∷ bs) [] = refl
+    alter-long (b ∷ bs) (x ∷ xs) = ap suc (alter-long bs xs)
+
+    -- what stands past the marks stays
+    pub alter-front : (fs : List Bool) (l r : List A) → length fs ≡ length l → altered g fs (l ++ r) ≡ altered g fs l ++ r
+    alter-front [] [] r h = refl
+    alter-front [] (x ∷ xs) r h = absurd (omega arith)
+    alter-front (b ∷ bs) [] r h = absurd (omega arith)
+    alter-front (b ∷ bs) (x ∷ xs) r h = ap (λ (t : List A). cond b (g x) x ∷ t) (alter-front bs xs r (omega arith))
+
+    module _ (takes : List Bool) (l out : List A) (i : ℕ) (d : A) (h : i < length takes) (k : i < length l) (q : out ≡ altered g (take i takes) l) where
+      long : length (take i takes) ≡ i
+      long = length-take-le i takes (omega arith)
+
+      pub change-yes : getD takes i false ≡ true → (x : A) → x ≡ g (getD out i d) → set out i x ≡ altered g (take (i + 1) takes) l
+      change-yes e x f =
+          let r : getD out i d ≡ getD l i d = ap (λ (o : List A). getD o i d) q ∙ rw long at (alter-read (take i takes) l d) in
+          ap (λ (o : List A). set o i x) q ∙ ap (set (altered g (take i takes) l) i) (f ∙ ap g r)
+          ∙ sym (rw long at (alter-yes (take i takes) l d (omega (arith, long))))
+          ∙ ap (λ (b : Bool). altered g (take i takes ++ (b ∷ [])) l) (sym e)
+          ∙ ap (λ (fs : List Bool). altered g fs l) (sym (more takes i false h))
+
+      pub change-no : getD takes i false ≡ false → out ≡ altered g (take (i + 1) takes) l
+      change-no e =
+          q ∙ sym (alter-no (take i takes) l)
+          ∙ ap (λ (b : Bool). altered g (take i takes ++ (b ∷ [])) l) (sym e)
+          ∙ ap (λ (fs : List Bool). altered g fs l) (sym (more takes i false h))
+
+  -- ---- marks made by a test
+  pub marked-filter : (p : A → Bool) (l : List A) → flagged (map p l) l ≡ filter p l
+  marked-filter p [] = refl
+  marked-filter p (x ∷ xs) = ap (λ (t : List A). cond (p x) (x ∷ t) t) (marked-filter p xs)
+
+  -- in their places
+  pub marks-front : (n w : ℕ) (p : A → Bool) (l : List A) (takes : List Bool) → takes ≡ inPlaces w false (map p l) → length l ≡ n → take n takes ≡ map p l
+  marks-front n w p l takes e h = ap (take n) e ∙ take-at (map p l) (replicate (w - length (map p l)) false) n (length-map l p ∙ h)

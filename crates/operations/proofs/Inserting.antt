@@ -11,19 +11,20 @@ use borrow.Author.Tests.{eqb-true, eqb-false, le-leb, lt-leb, not-true, not-fals
 use Rattle.lists.specs.Tests.{_and_, non, Yes}
 use Rattle.lists.specs.Lists.{any, insertBy, ascending}
 use Rattle.lists.specs.Places.{inPlaces, opened}
-use Rattle.lists.proofs.Tests.{by, and-f, and-i, and-r, non-t, non-f}
+use Rattle.lists.proofs.Tests.{by, cond-true, cond-false, and-f, and-i, and-r, non-t, non-f}
 use Rattle.lists.proofs.Lists.{length-insert}
 use Rattle.ids.specs.declared.LockId.{LockId}
 use Rattle.state.specs.declared.ActiveLock.{ActiveLock}
 use Rattle.state.specs.declared.DefunctLock.{DefunctLock}
 use Rattle.state.specs.declared.LockState.{LockState}
-use Rattle.state.specs.Locks.{akey, dkey, blankActive, blankDefunct, normal}
+use Rattle.state.specs.Locks.{akey, dkey, blankActive, blankDefunct}
 use Rattle.state.specs.Model.{Model, modelOf, stateOf, full, fits, Tidy}
 use Rattle.state.proofs.Laws.{active-count, defunct-count, active-in, defunct-in}
 use Rattle.rules.specs.declared.Verdict.{Verdict}
 use Rattle.rules.specs.declared.Verdict.the-variants.{Sound, Broken}
-use Rattle.rules.specs.Rules.{brokenRule, isSound, inOrder}
+use Rattle.rules.specs.Rules.{brokenRule, inOrder}
 use Rattle.rules.proofs.Sound.{facts-of-state, tidy-of-sound}
+use Rattle.lookups.specs.Reads.{onSound}
 use Rattle.lookups.proofs.Verdicts.{on-broken, on-sound}
 use Rattle.operations.specs.declared.answers.Answer.{Answer}
 use Rattle.operations.specs.declared.answers.Answer.the-variants.{Done, NoRoom, Invariant, UnsoundState}
@@ -32,11 +33,12 @@ use Rattle.operations.specs.declared.table.Table.{Table}
 use Rattle.operations.specs.Answers.{isDone, refuseIf, andThen}
 use Rattle.operations.specs.Table.{superseded, supersede}
 use Rattle.operations.specs.Checks.{checkId, checkInsert, checkRevision, checkRoom, lastRevision}
-use Rattle.operations.specs.Insert.{insertedIn, judgeInsert, inserted, closedInsert, settledInsert, insertActiveOn}
+use Rattle.operations.specs.Insert.{insertedIn, judgeInsert, inserted, closedInsert, settledInsert}
 use Rattle.operations.specs.Code.{Placed, Ready, placeOf, entriesOf, tableOf, Laid, Ranked}
 use Rattle.operations.proofs.Going.{placed-count}
 use Rattle.operations.proofs.Leaving.{supersede-le, supersede-none, entries-back, laid-of}
 use Rattle.operations.proofs.Coming.{place-le, put-in}
+use Rattle.operations.proofs.Closing.{closed-sound, closed-broken}
 use Rattle.operations.proofs.Chains.{refuse, go-on, first-done, rest-done, revision-left}
 
 -- ---- a lock in its place
@@ -68,10 +70,10 @@ module _ (m : Model) (x : ActiveLock) (n : ℕ) (e : length (m .active) ≡ n) (
   room-left t = by (eqb n 64) (n < 64) (λ u. absurd (true≢false (sym t ∙ ap isDone (sym room-judged ∙ refuse _ _ _ u)))) (λ u. omega (arith, eqb-false n 64 u))
 
 -- ---- a state that was tested
-module _ (s : LockState) (la : length (s .active) ≡ 64) (ld : length (s .defunct) ≡ 128) (e : brokenRule s ≡ Sound) where
-  pub ready : Ready s
-  unfolding inOrder
-  ready = record { tidy = tidy-of-sound s la ld e; order = and-r _ _ (facts-of-state s e .order) }
+-- v is what the test answered
+pub tested : (s : LockState) (v : Verdict) → v ≡ brokenRule s → v ≡ Sound → length (s .active) ≡ 64 → length (s .defunct) ≡ 128 → Ready s
+unfolding inOrder
+tested s v e f la ld = let q : brokenRule s ≡ Sound = sym e ∙ f in record { tidy = tidy-of-sound s la ld q; order = and-r _ _ (facts-of-state s q .order) }
 
 module _ (s : LockState) (t : Tidy s) where
   pub active-placed : Placed (s .active) (s .actives)
@@ -120,64 +122,45 @@ module _ (s : LockState) (h : Ready s) (x : ActiveLock) (a : List ActiveLock) (f
         defuncts = ap (λ (t : Table). t .count) table-is j;
       }
 
--- ---- what the judgement leaves
-module _ (m : Model) (x : ActiveLock) (t : isDone (judgeInsert full m x) ≡ true) where
-  pub judged-revision : m .revision ≡ lastRevision → ⊥
-  unfolding judgeInsert
-  judged-revision = revision-left (m .revision) (first-done _ _ (rest-done _ _ (rest-done _ _ t)))
-
-  pub judged-room : isDone (checkRoom full (insertedIn m x)) ≡ true
-  unfolding judgeInsert
-  judged-room = rest-done _ _ (rest-done _ _ (rest-done _ _ t))
-
 -- ---- the answer: refused, or changed and tested again
 module _ (s n : LockState) (v : Verdict) (e : v ≡ brokenRule n) where
   pub closed-yes : v ≡ Sound → inserted Done n ≡ closedInsert s n
   unfolding closedInsert
-  closed-yes f = rw (← e, f)
+  closed-yes f = sym (closed-sound n (inserted Done n) (inserted Invariant s) v e f)
 
   pub closed-no : (k : ℕ) → v ≡ Broken k → inserted Invariant s ≡ closedInsert s n
   unfolding closedInsert
-  closed-no k f = rw (← e, f)
+  closed-no k f = sym (closed-broken n (inserted Done n) (inserted Invariant s) v e k f)
 
-module _ (a j : Answer) (e : a ≡ j) (d : Bool) (f : d ≡ isDone a) (s : LockState) (m : Model) where
-  pub settled-no : not d ≡ true → inserted a s ≡ settledInsert j s m
-  unfolding settledInsert
-  settled-no t = let g : isDone j ≡ false = ap isDone (sym e) ∙ sym f ∙ not-true d t in ap (λ (b : Answer). inserted b s) e ∙ rw g
+-- j is the judgement of the state s, m the change, a what the judge answered
+module _ (s : LockState) (j : Answer) (m : Model) (v : Verdict) (e : v ≡ brokenRule s) where
+  abbrev answered : Inserted
+  answered = onSound s (λ n. inserted (UnsoundState n) s) (settledInsert j s m)
 
-  pub settled-yes : not d ≡ false → (r : Inserted) (n : LockState) → n ≡ stateOf m → r ≡ closedInsert s n → r ≡ settledInsert j s m
-  unfolding settledInsert
-  settled-yes t r n h k = let g : isDone j ≡ true = ap isDone (sym e) ∙ sym f ∙ not-false d t in k ∙ ap (closedInsert s) h ∙ rw g
-
-  pub settled-done : not d ≡ false → isDone j ≡ true
-  settled-done t = ap isDone (sym e) ∙ sym f ∙ not-false d t
-
--- ---- insert_active
-module _ (s : LockState) (y x : ActiveLock) (q : x ≡ normal y) (v : Verdict) (e : v ≡ brokenRule s) where
-  pub insert-broken : (n : ℕ) → v ≡ Broken n → inserted (UnsoundState n) s ≡ insertActiveOn s y
-  unfolding insertActiveOn
-  insert-broken n f = on-broken s (λ n. inserted (UnsoundState n) s) _ v n e f
+  pub put-broken : (n : ℕ) → v ≡ Broken n → inserted (UnsoundState n) s ≡ answered
+  put-broken n f = on-broken s (λ n. inserted (UnsoundState n) s) (settledInsert j s m) v n e f
 
   module _ (f : v ≡ Sound) where
-    pub tested : length (s .active) ≡ 64 → length (s .defunct) ≡ 128 → Ready s
-    tested la ld = ready s la ld (sym e ∙ f)
-
-    module _ (a : Answer) (g : a ≡ judgeInsert full (modelOf s) x) (d : Bool) (h : d ≡ isDone a) where
-      judged-is : a ≡ judgeInsert full (modelOf s) (normal y)
-      judged-is = g ∙ ap (judgeInsert full (modelOf s)) q
-
-      pub insert-refused : not d ≡ true → inserted a s ≡ insertActiveOn s y
-      unfolding insertActiveOn
-      insert-refused t = settled-no a _ judged-is d h s (insertedIn (modelOf s) (normal y)) t ∙ on-sound s (λ n. inserted (UnsoundState n) s) _ v e f
+    module _ (a : Answer) (g : a ≡ j) (d : Bool) (h : d ≡ isDone a) where
+      pub put-refused : not d ≡ true → inserted a s ≡ answered
+      unfolding settledInsert
+      put-refused t =
+          let u : isDone j ≡ false = ap isDone (sym g) ∙ sym h ∙ not-true d t in
+          ap (λ (b : Answer). inserted b s) g ∙ sym (cond-false (isDone j) (closedInsert s (stateOf m)) (inserted j s) u) ∙ on-sound s (λ n. inserted (UnsoundState n) s) (settledInsert j s m) v e f
 
       module _ (t : not d ≡ false) where
-        pub insert-allowed : Ready s → (s .actives < 64) × (s .revision ≡ lastRevision → ⊥)
-        insert-allowed k =
-            let o : isDone (judgeInsert full (modelOf s) x) ≡ true = sym (ap isDone g) ∙ sym h ∙ not-false d t in
-            (room-left (modelOf s) x (s .actives) (active-count s (k .tidy)) (k .tidy .active) (defunct-room s (k .tidy)) (judged-room (modelOf s) x o), judged-revision (modelOf s) x o)
+        pub put-allowed : isDone j ≡ true
+        put-allowed = ap isDone (sym g) ∙ sym h ∙ not-false d t
 
-        pub insert-done : (n : LockState) (r : Inserted) → n ≡ stateOf (insertedIn (modelOf s) x) → r ≡ closedInsert s n → r ≡ insertActiveOn s y
-        unfolding insertActiveOn
-        insert-done n r k z =
-            settled-yes a _ judged-is d h s (insertedIn (modelOf s) (normal y)) t r n (k ∙ ap (λ (w : ActiveLock). stateOf (insertedIn (modelOf s) w)) q) z
-            ∙ on-sound s (λ n. inserted (UnsoundState n) s) _ v e f
+        pub put-done : (n : LockState) (r : Inserted) → n ≡ stateOf m → r ≡ closedInsert s n → r ≡ answered
+        unfolding settledInsert
+        put-done n r k z =
+            z ∙ ap (closedInsert s) k ∙ sym (cond-true (isDone j) (closedInsert s (stateOf m)) (inserted j s) put-allowed) ∙ on-sound s (λ n. inserted (UnsoundState n) s) (settledInsert j s m) v e f
+
+-- ---- insert_active: what the judgement leaves
+module _ (s : LockState) (k : Tidy s) (x : ActiveLock) (t : isDone (judgeInsert full (modelOf s) x) ≡ true) where
+  pub insert-allowed : (s .actives < 64) × (s .revision ≡ lastRevision → ⊥)
+  unfolding judgeInsert
+  insert-allowed =
+      let r = rest-done _ _ (rest-done _ _ t) in
+      (room-left (modelOf s) x (s .actives) (active-count s k) (k .active) (defunct-room s k) (rest-done _ _ r), revision-left (s .revision) (first-done _ _ r))

@@ -7,6 +7,10 @@ pub mod Coming
 pub mod Chains
 pub mod Inserting
 pub mod Finding
+pub mod Listing
+pub mod Adopting
+pub mod Ordering
+pub mod Replacing
 pub mod Closing
 pub mod Renewing
 pub mod Deleting

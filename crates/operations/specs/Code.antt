@@ -7,7 +7,7 @@ use Prim.Native.Nat.{ℕ, zero, suc, _+_, _≤_}
 use lib.Dec.{eqb, ltb}
 use lib.ListN.{length, getD, take}
 use Rattle.lists.specs.Tests.{_or_, non, Yes}
-use Rattle.lists.specs.Lists.{ascending}
+use Rattle.lists.specs.Lists.{ascending, insertBy}
 use Rattle.lists.specs.Places.{inPlaces, leading, opened}
 use Rattle.ids.specs.declared.LockId.{LockId}
 use Rattle.ids.specs.Order.{key}
@@ -15,15 +15,21 @@ use Rattle.coverage.specs.Coverage.{within}
 use Rattle.state.specs.declared.ActiveLock.{ActiveLock}
 use Rattle.state.specs.declared.DefunctLock.{DefunctLock}
 use Rattle.state.specs.declared.LockState.{LockState}
-use Rattle.state.specs.Locks.{hasId, dkey, blankActive, blankDefunct}
-use Rattle.state.specs.Model.{modelOf, Tidy}
+use Rattle.state.specs.Locks.{hasId, akey, dkey, blankActive, blankDefunct}
+use Rattle.state.specs.Model.{Model, modelOf, full, Tidy}
 use Rattle.lookups.specs.Reads.{narrow}
+use Rattle.operations.specs.declared.answers.Answer.{Answer}
+use Rattle.operations.specs.declared.answers.Replaced.{Replaced}
 use Rattle.operations.specs.declared.checks.Seen.{Seen}
 use Rattle.operations.specs.declared.checks.Seen.the-variants.{Nothing, Lock}
 use Rattle.operations.specs.declared.trees.Split.{Split}
 use Rattle.operations.specs.declared.table.Table.{Table}
 use Rattle.operations.specs.Trees.{childOf, Parts}
+use Rattle.operations.specs.Answers.{andThen}
 use Rattle.operations.specs.Table.{redirect}
+use Rattle.operations.specs.Checks.{checkInsert, checkRevision, checkChildren, checkRoom}
+use Rattle.operations.specs.Vehicle.{adopt}
+use Rattle.operations.specs.Replace.{orphan, enteredOf, settledReplace}
 
 module _ {A : Type 0} where
   -- what is marked, and what is left; what stands past the marks is left
@@ -36,6 +42,12 @@ module _ {A : Type 0} where
   unflagged [] l = l
   unflagged (b ∷ bs) [] = []
   unflagged (b ∷ bs) (x ∷ xs) = cond b (unflagged bs xs) (x ∷ unflagged bs xs)
+
+  -- what is marked is changed by g
+  abbrev pub altered : (A → A) → List Bool → List A → List A
+  altered g [] l = l
+  altered g (b ∷ bs) [] = []
+  altered g (b ∷ bs) (x ∷ xs) = cond b (g x) x ∷ altered g bs xs
 
   -- where what has the key belongs
   unfoldable pub placeOf : (A → ℕ) → LockId → List A → ℕ
@@ -109,3 +121,22 @@ seen (some a) = Lock a
 -- a lock that the vehicle lock x can't take in
 unfoldable pub misfit : ActiveLock → ActiveLock → Bool
 misfit x a = non (eqb (x .lock .subject) (a .lock .subject)) or non (within (a .lock .coverage) (x .lock .coverage))
+
+-- ---- a replacement once the trees are out: p are the locks that stay and those that went
+unfoldable pub leftIn : Model → Parts → ActiveLock → ℕ → ℕ → Model
+leftIn m p x by at =
+    record {
+      revision = m .revision + 1;
+      active = insertBy akey x (map (adopt (orphan x) x) (p .kept));
+      defunct = enteredOf x by at (p .gone) (m .defunct);
+    }
+
+unfoldable pub judgeLeft : Model → Parts → ActiveLock → ℕ → ℕ → Answer
+judgeLeft m p x by at =
+    andThen (checkInsert (p .kept) x)
+    (andThen (checkRevision (m .revision))
+    (andThen (checkChildren (orphan x) (p .kept) x)
+    (checkRoom full (leftIn m p x by at))))
+
+unfoldable pub leftOn : LockState → Parts → ActiveLock → ℕ → ℕ → Replaced
+leftOn s p x by at = settledReplace (judgeLeft (modelOf s) p x by at) s (p .gone) (leftIn (modelOf s) p x by at)

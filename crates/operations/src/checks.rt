@@ -13,7 +13,7 @@ ghost use lib.ListN.{take};
 ghost use Rattle.lists.specs.Lists.{any, find};
 ghost use Rattle.state.specs.Locks.{hasId, hasIdD};
 ghost use Rattle.lookups.specs.Reads.{onScope};
-ghost use Rattle.operations.specs.Checks.{checkId, checkScope, checkParent, checkNesting, conflicts, checkClear, checkInsert, checkRevision, toldChild};
+ghost use Rattle.operations.specs.Checks.{checkList, checkId, checkScope, checkParent, checkNesting, conflicts, checkClear, checkInsert, checkRevision, toldChild};
 ghost use Rattle.operations.specs.Code.{seen, misfit, flagged};
 
 // What a search among the active locks finds.
@@ -22,8 +22,18 @@ pub(crate) enum Seen {
     Lock(ActiveLock),
 }
 
+// ---- 14
+pub(crate) fn check_list(list: &[u64]) -> Answer
+    ensures { λ r. ⌜ r ≡ checkList (now (list .entry)) ⌝ }
+{
+    if ids::is_odd(list) {
+        return Answer::BadList;
+    }
+    Answer::Done
+}
+
 // ---- 1
-pub(crate) fn id_defunct(t: [DefunctLock; 128], m: usize, id: LockId) -> bool
+fn id_defunct(t: [DefunctLock; 128], m: usize, id: LockId) -> bool
     requires { ⌜ m ≤ 128 ⌝ }
     ensures { λ r. ⌜ r ≡ any (hasIdD id) (take m t) ⌝ }
 {

@@ -6,5 +6,7 @@ mod checks;
 pub mod delete;
 pub mod insert;
 pub mod renew;
+pub mod replace;
 mod table;
 mod trees;
+pub mod vehicle;

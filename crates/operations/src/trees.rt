@@ -7,7 +7,7 @@ ghost use Prim.Native.Nat.{_≤_};
 ghost use lib.ListN.{take};
 ghost use Rattle.lists.specs.Lists.{any};
 ghost use Rattle.state.specs.Locks.{hasId};
-ghost use Rattle.operations.specs.Trees.{childOf, takeParts, treeParts, rootParts, rootsParts, startParts};
+ghost use Rattle.operations.specs.Trees.{childOf, inTree, takeParts, treeParts, rootParts, rootsParts, startParts};
 ghost use Rattle.operations.specs.Code.{picks, Placed, Cut, partsOf, splitOf};
 
 // The active locks: those that stay, and those that went, in the order of their going.
@@ -22,6 +22,13 @@ fn child_of(r: ActiveLock, a: ActiveLock) -> bool
     ensures { λ x. ⌜ x ≡ childOf r a ⌝ }
 {
     a.child & ids::same(a.parent, r.lock.id)
+}
+
+// Whether a goes with the root r.
+pub(crate) fn in_tree(r: ActiveLock, a: ActiveLock) -> bool
+    ensures { λ x. ⌜ x ≡ inTree r a ⌝ }
+{
+    child_of(r, a) | lookups::narrow_of(r, a) | state::has_id(r.lock.id, a)
 }
 
 // The three steps of a tree's removal: the children, what a group covers, the root.
