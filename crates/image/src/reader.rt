@@ -83,7 +83,7 @@ fn body_of(b: &[u8], due: Due, at: usize, next: usize) -> Stepped
     }
 }
 
-pub fn record_at(image: &[u8], at: usize, due: Due) -> Stepped
+fn record_at(image: &[u8], at: usize, due: Due) -> Stepped
     ensures { λ r. ⌜ r ≡ stepOf (now (image .entry)) at due ⌝ }
 {
     match frame::frame_at(image, at, place_of(due)) {
