@@ -84,7 +84,7 @@ fn actives_at(image: &[u8], from: usize, n: usize) -> Actives
     let mut at = from;
     let mut i: usize = 0;
     while i < n {
-        let got = reader::record_at(image, at, Due::Active);
+        let got = reader::step_from(image, at, Due::Active);
         let step = got.step;
         match step {
             Step::Active(a) => {
@@ -125,7 +125,7 @@ fn defuncts_at(image: &[u8], from: usize, n: usize) -> Defuncts
     let mut at = from;
     let mut i: usize = 0;
     while i < n {
-        let got = reader::record_at(image, at, Due::Defunct);
+        let got = reader::step_from(image, at, Due::Defunct);
         let step = got.step;
         match step {
             Step::Defunct(d) => {
@@ -199,7 +199,7 @@ fn lists_at(image: &[u8], h: Head, at: usize) -> Imaged
 pub fn read_records(image: &[u8]) -> Imaged
     ensures { λ r. ⌜ r ≡ recordsOf (now (image .entry)) ⌝ }
 {
-    let got = reader::record_at(image, 0, Due::Head);
+    let got = reader::step_from(image, 0, Due::Head);
     let step = got.step;
     match step {
         Step::Head(h) => lists_at(image, h, got.at),

@@ -1,4 +1,4 @@
-// The record that stands at a place of an image, and the place after it.
+// One record of an image at a time: what stands at a place, and a reader that keeps the image and its place.
 // SPDX-License-Identifier: Apache-2.0
 use crate::Reading;
 use records::bodies;
@@ -13,6 +13,7 @@ use state::ActiveLock;
 use state::DefunctLock;
 ghost use mathlib.Core.Path.{_≡_};
 ghost use Rattle.image.specs.Steps.{placeOf, stay, bodyStep, stepOf};
+ghost use Rattle.image.specs.Held.{startOf, movedOf};
 
 // Which record is due.
 pub enum Due {
@@ -82,7 +83,7 @@ fn body_of(b: &[u8], due: Due, at: usize, next: usize) -> Stepped
     }
 }
 
-pub fn record_at(image: &[u8], at: usize, due: Due) -> Stepped
+fn record_at(image: &[u8], at: usize, due: Due) -> Stepped
     ensures { λ r. ⌜ r ≡ stepOf (now (image .entry)) at due ⌝ }
 {
     match frame::frame_at(image, at, place_of(due)) {
@@ -94,5 +95,48 @@ pub fn record_at(image: &[u8], at: usize, due: Due) -> Stepped
             let end = start + f.size;
             body_of(&image[start..end], due, at, f.next)
         }
+    }
+}
+
+// The image, and the place of the next record.
+pub struct Reader<'a> {
+    pub image: &'a [u8],
+    pub at: usize,
+}
+
+// A step, and the reader past it.
+pub struct Moved<'a> {
+    pub reader: Reader<'a>,
+    pub step: Step,
+}
+
+pub fn new<'a>(image: &'a [u8]) -> Reader<'a>
+    ensures { λ r. ⌜ r ≡ startOf (image .entry) ⌝ }
+{
+    Reader { image, at: 0 }
+}
+
+pub fn next<'a>(r: Reader<'a>, due: Due) -> Moved<'a>
+    ensures { λ m. ⌜ m ≡ movedOf (r .entry) due ⌝ }
+{
+    let image = r.image;
+    let at = r.at;
+    let g = record_at(image, at, due);
+    let step = g.step;
+    Moved {
+        reader: Reader { image, at: g.at },
+        step,
+    }
+}
+
+// Plain parameters: for loops, and for whoever keeps the place as a number.
+pub fn step_from(image: &[u8], at: usize, due: Due) -> Stepped
+    ensures { λ r. ⌜ r ≡ stepOf (now (image .entry)) at due ⌝ }
+{
+    let m = next(Reader { image, at }, due);
+    let step = m.step;
+    Stepped {
+        step,
+        at: m.reader.at,
     }
 }

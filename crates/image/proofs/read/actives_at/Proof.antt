@@ -19,7 +19,7 @@ use Rattle.image.proofs.read.actives_at.Reads as reads
 use Rattle.image.proofs.read.actives_at.Lts as lts
 use Rattle.ids.proofs.less.Reads as less-reads
 use Rattle.image.proofs.read.no_actives.Reads as no-actives-reads
-use Rattle.image.proofs.reader.record_at.Reads as record-at-reads
+use Rattle.image.proofs.reader.step_from.Reads as step-from-reads
 use Rattle.state.proofs.blank_active.Reads as blank-active-reads
 
 abbrev Inv-loop : tie.InvT-loop
@@ -39,8 +39,8 @@ loop-holds c =
     subst⁻¹ (λ (b : ActiveLock). Going activeList (now (a .image)) (a .n) (a .from) (replicate 64 b) (key noId) (a .from) 0) (c .blank-active .ensures) (starts activeList (now (a .image)) (a .n) (a .from) (key noId))
 
 -- src/read.rt:87:13
-record-at-requires : tie.Need-record-at-requires Inv-loop μ-loop
-record-at-requires c κs = search needs
+step-from-requires : tie.Need-step-from-requires Inv-loop μ-loop
+step-from-requires c κs = search needs
 
 -- src/read.rt:90:26
 enum-known-step : tie.Need-enum-known-step Inv-loop μ-loop
@@ -59,8 +59,8 @@ returns : tie.Need-returns Inv-loop μ-loop
 returns c =
     let a = c .before .before .before .before .before .before .before .before .before .before .before .before .args in
     let l = c .before .before .before .before .before .before .before .before .before .loop in
-    c .no-actives .ensures ∙ ap ranActives (sym (disorders activeList (now (a .image)) (a .n) (a .from) (l .locks) (key (l .last)) (l .at) (l .i) (l .inv) (c .before .before .before .before .before .before .before .before .loop-test .taken) (c .before .before .before .before .before .step .given .0 .0) (c .before .before .before .before .before .before .before .record-at .result .at)
-    (active-got (now (a .image)) (l .at) (c .before .before .before .before .before .before .before .record-at .result) _ (c .before .before .before .before .before .before .before .record-at .ensures) (c .before .before .before .before .before .step .given .1))
+    c .no-actives .ensures ∙ ap ranActives (sym (disorders activeList (now (a .image)) (a .n) (a .from) (l .locks) (key (l .last)) (l .at) (l .i) (l .inv) (c .before .before .before .before .before .before .before .before .loop-test .taken) (c .before .before .before .before .before .step .given .0 .0) (c .before .before .before .before .before .before .before .step-from .result .at)
+    (active-got (now (a .image)) (l .at) (c .before .before .before .before .before .before .before .step-from .result) _ (c .before .before .before .before .before .before .before .step-from .ensures) (c .before .before .before .before .before .step .given .1))
     (order-told (l .i) (l .last) _ _ _ (c .before .before .less .ensures) (c .before .if1 .taken))))
 
 -- src/read.rt:95:17
@@ -84,8 +84,8 @@ loop-again : tie.Need-loop-again Inv-loop μ-loop
 loop-again c =
     let a = c .before .before .before .before .before .before .before .before .before .before .before .args in
     let l = c .before .before .before .before .before .before .before .before .loop in
-    turns activeList (now (a .image)) (a .n) (a .from) (l .locks) (key (l .last)) (l .at) (l .i) (l .inv) (c .before .before .before .before .before .before .before .loop-test .taken) (c .before .before .before .before .step .given .0 .0) (c .before .before .before .before .before .before .record-at .result .at)
-    (active-got (now (a .image)) (l .at) (c .before .before .before .before .before .before .record-at .result) _ (c .before .before .before .before .before .before .record-at .ensures) (c .before .before .before .before .step .given .1))
+    turns activeList (now (a .image)) (a .n) (a .from) (l .locks) (key (l .last)) (l .at) (l .i) (l .inv) (c .before .before .before .before .before .before .before .loop-test .taken) (c .before .before .before .before .step .given .0 .0) (c .before .before .before .before .before .before .step-from .result .at)
+    (active-got (now (a .image)) (l .at) (c .before .before .before .before .before .before .step-from .result) _ (c .before .before .before .before .before .before .step-from .ensures) (c .before .before .before .before .step .given .1))
     (c .before .before .before .before .before .before .before .before .before .before .before .pre)
     (order-told (l .i) (l .last) _ _ _ (c .before .less .ensures) (c .if1 .left))
 
@@ -103,7 +103,7 @@ returns-2 c =
     let a = c .before .before .before .before .before .before .before .before .before .args in
     let l = c .before .before .before .before .before .before .loop in
     c .no-actives2 .ensures ∙ ap ranActives (sym (stops activeList (now (a .image)) (a .n) (a .from) (l .locks) (key (l .last)) (l .at) (l .i) (l .inv) (c .before .before .before .before .before .loop-test .taken) (c .before .before .step2 .given .0 .0)
-    (active-stopped (now (a .image)) (l .at) (c .before .before .before .before .record-at .result) _ (c .before .before .before .before .record-at .ensures) (c .before .before .step2 .given .1))))
+    (active-stopped (now (a .image)) (l .at) (c .before .before .before .before .step-from .result) _ (c .before .before .before .before .step-from .ensures) (c .before .before .step2 .given .1))))
 
 -- src/read.rt:105:35
 enum-told : tie.Need-enum-told Inv-loop μ-loop
@@ -117,7 +117,7 @@ no-actives-requires-3 c κs = search needs
 returns-3 : tie.Need-returns-3 Inv-loop μ-loop
 returns-3 c =
     let a = c .before .before .before .before .before .before .before .before .args in
-    absurd (not-due (now (a .image)) (c .before .before .before .before .before .loop .at) Due.Active (c .before .before .before .record-at .result) _ (c .before .before .before .record-at .ensures) (c .before .enum-told .given .1) (omega arith) (λ z. omega arith))
+    absurd (not-due (now (a .image)) (c .before .before .before .before .before .loop .at) Due.Active (c .before .before .before .step-from .result) _ (c .before .before .before .step-from .ensures) (c .before .enum-told .given .1) (omega arith) (λ z. omega arith))
 
 -- src/read.rt:108:35
 enum-told-2 : tie.Need-enum-told-2 Inv-loop μ-loop
@@ -131,7 +131,7 @@ no-actives-requires-4 c κs = search needs
 returns-4 : tie.Need-returns-4 Inv-loop μ-loop
 returns-4 c =
     let a = c .before .before .before .before .before .before .before .before .args in
-    absurd (not-due (now (a .image)) (c .before .before .before .before .before .loop .at) Due.Active (c .before .before .before .record-at .result) _ (c .before .before .before .record-at .ensures) (c .before .enum-told2 .given .1) (omega arith) (λ z. omega arith))
+    absurd (not-due (now (a .image)) (c .before .before .before .before .before .loop .at) Due.Active (c .before .before .before .step-from .result) _ (c .before .before .before .step-from .ensures) (c .before .enum-told2 .given .1) (omega arith) (λ z. omega arith))
 
 -- src/read.rt:78:1
 returns-5 : tie.Need-returns-5 Inv-loop μ-loop
@@ -149,7 +149,7 @@ actives-at-spec =
     μ-loop
     blank-active-requires
     loop-holds
-    record-at-requires
+    step-from-requires
     enum-known-step
     less-requires
     no-actives-requires

@@ -11,11 +11,11 @@ use Rattle.image.proofs.read.read_records.Reads as reads
 use Rattle.image.proofs.read.read_records.Lts as lts
 use Rattle.image.proofs.read.lists_at.Reads as lists-at-reads
 use Rattle.image.proofs.read.refused.Reads as refused-reads
-use Rattle.image.proofs.reader.record_at.Reads as record-at-reads
+use Rattle.image.proofs.reader.step_from.Reads as step-from-reads
 
 -- src/read.rt:202:9
-record-at-requires : tie.Need-record-at-requires
-record-at-requires c κs = search needs
+step-from-requires : tie.Need-step-from-requires
+step-from-requires c κs = search needs
 
 -- src/read.rt:205:20
 enum-known-step : tie.Need-enum-known-step
@@ -23,7 +23,7 @@ enum-known-step c = search needs
 
 -- src/read.rt:205:26
 lists-at-requires : tie.Need-lists-at-requires
-lists-at-requires c κs = head-counts (now (c .before .before .before .before .before .args .image)) 0 _ _ (head-got (now (c .before .before .before .before .before .args .image)) 0 (c .before .before .before .record-at .result) _ (c .before .before .before .record-at .ensures) (c .before .step .given .1))
+lists-at-requires c κs = head-counts (now (c .before .before .before .before .before .args .image)) 0 _ _ (head-got (now (c .before .before .before .before .before .args .image)) 0 (c .before .before .before .step-from .result) _ (c .before .before .before .step-from .ensures) (c .before .step .given .1))
 
 -- src/read.rt:206:23
 enum-known-step-2 : tie.Need-enum-known-step-2
@@ -52,26 +52,26 @@ refused-requires-3 c κs = search needs
 -- src/read.rt:199:1
 returns : tie.Need-returns
 returns c = let s = now (c .before .before .before .before .before .before .args .image) in
-    c .lists-at .ensures ∙ head-read s _ _ (head-got s 0 (c .before .before .before .before .record-at .result) _ (c .before .before .before .before .record-at .ensures) (c .before .before .step .given .1))
+    c .lists-at .ensures ∙ head-read s _ _ (head-got s 0 (c .before .before .before .before .step-from .result) _ (c .before .before .before .before .step-from .ensures) (c .before .before .step .given .1))
 
 -- src/read.rt:199:1
 returns-2 : tie.Need-returns-2
 returns-2 c = let s = now (c .before .before .before .before .before .before .args .image) in
-    c .refused .ensures ∙ head-failed s _ (head-stopped s 0 (c .before .before .before .before .record-at .result) _ (c .before .before .before .before .record-at .ensures) (c .before .before .step2 .given .1))
+    c .refused .ensures ∙ head-failed s _ (head-stopped s 0 (c .before .before .before .before .step-from .result) _ (c .before .before .before .before .step-from .ensures) (c .before .before .step2 .given .1))
 
 -- src/read.rt:199:1
 returns-3 : tie.Need-returns-3
-returns-3 c = absurd (not-due (now (c .before .before .before .before .before .args .image)) 0 Due.Head (c .before .before .before .record-at .result) _ (c .before .before .before .record-at .ensures) (c .before .enum-told .given .1) (omega arith) (λ z. omega arith))
+returns-3 c = absurd (not-due (now (c .before .before .before .before .before .args .image)) 0 Due.Head (c .before .before .before .step-from .result) _ (c .before .before .before .step-from .ensures) (c .before .enum-told .given .1) (omega arith) (λ z. omega arith))
 
 -- src/read.rt:199:1
 returns-4 : tie.Need-returns-4
-returns-4 c = absurd (not-due (now (c .before .before .before .before .before .args .image)) 0 Due.Head (c .before .before .before .record-at .result) _ (c .before .before .before .record-at .ensures) (c .before .enum-told2 .given .1) (omega arith) (λ z. omega arith))
+returns-4 c = absurd (not-due (now (c .before .before .before .before .before .args .image)) 0 Due.Head (c .before .before .before .step-from .result) _ (c .before .before .before .step-from .ensures) (c .before .enum-told2 .given .1) (omega arith) (λ z. omega arith))
 
 pub read-records-spec : {M : Type 1} → statement M
 read-records-spec =
     tie.close
     (tie.spec
-    record-at-requires
+    step-from-requires
     enum-known-step
     lists-at-requires
     enum-known-step-2
