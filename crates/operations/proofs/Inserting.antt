@@ -75,6 +75,9 @@ pub tested : (s : LockState) (v : Verdict) → v ≡ brokenRule s → v ≡ Soun
 unfolding inOrder
 tested s v e f la ld = let q : brokenRule s ≡ Sound = sym e ∙ f in record { tidy = tidy-of-sound s la ld q; order = and-r _ _ (facts-of-state s q .order) }
 
+pub ready : (s : LockState) → length (s .active) ≡ 64 → length (s .defunct) ≡ 128 → brokenRule s ≡ Sound → Ready s
+ready s la ld q = tested s (brokenRule s) refl q la ld
+
 module _ (s : LockState) (t : Tidy s) where
   pub active-placed : Placed (s .active) (s .actives)
   active-placed = record { room = t .active; same = active-in s t }

@@ -33,7 +33,7 @@ pub(crate) fn check_list(list: &[u64]) -> Answer
 }
 
 // ---- 1
-fn id_defunct(t: [DefunctLock; 128], m: usize, id: LockId) -> bool
+pub(crate) fn id_defunct(t: [DefunctLock; 128], m: usize, id: LockId) -> bool
     requires { ⌜ m ≤ 128 ⌝ }
     ensures { λ r. ⌜ r ≡ any (hasIdD id) (take m t) ⌝ }
 {
