@@ -1,0 +1,139 @@
+// What bench/run times. Standard input: a byte that says what is timed, a byte k for 2^k turns, then an image. Each turn's
+// revision comes from the turn before, so that no turn can be left out; what is printed is the last one's sum.
+// SPDX-License-Identifier: Apache-2.0
+use coverage::LockCoverage;
+use ids::LockId;
+use operations::acknowledge;
+use operations::delete;
+use operations::insert;
+use operations::renew;
+use operations::replace;
+use operations::vehicle;
+use rules::Verdict;
+use state::ActiveLock;
+use state::Lock;
+use state::LockState;
+use state::ScopeKey;
+
+fn sum(s: LockState) -> u64 {
+    std::num::wrapping_add_u64(s.revision, s.actives as u64)
+}
+
+fn tested(s: LockState) -> u64 {
+    match rules::broken(s) {
+        Verdict::Sound => sum(s),
+        Verdict::Broken(n) => n as u64,
+    }
+}
+
+// A lock that no state of the benchmark has: an ECU's of its own.
+fn new_lock(scope: ScopeKey) -> ActiveLock {
+    let l = Lock {
+        id: LockId {
+            hi: 18446744073709551615,
+            lo: 1,
+        },
+        coverage: LockCoverage::empty(),
+        principal: 0,
+        metadata: 0,
+        subject: 65535,
+        scope,
+        exclusive: false,
+    };
+    ActiveLock {
+        lock: l,
+        parent: LockId { hi: 0, lo: 0 },
+        expires: 18446744073709551615,
+        child: false,
+    }
+}
+
+fn first_id(s: LockState) -> LockId {
+    let a = s.active[0];
+    let l = a.lock;
+    l.id
+}
+
+fn first_entry(s: LockState) -> LockId {
+    let d = s.defunct[0];
+    let l = d.lock;
+    l.id
+}
+
+fn changed(s: LockState, what: u8) -> u64 {
+    match what {
+        2 => {
+            let r = insert::insert_active(s, new_lock(ScopeKey::Ecu(255)));
+            sum(r.state)
+        }
+        3 => {
+            let none = [0u64; 0];
+            let r = vehicle::insert_vehicle(s, new_lock(ScopeKey::Vehicle), &none);
+            sum(r.state)
+        }
+        4 => {
+            let r = renew::renew(s, first_id(s), 18446744073709551615, 0, false, 0);
+            sum(r.state)
+        }
+        5 => {
+            let r = delete::delete(s, first_id(s));
+            sum(r.state)
+        }
+        6 => {
+            let r = delete::begin_expiration(s, first_id(s), 18446744073709551615);
+            sum(r.state)
+        }
+        7 => {
+            let id = first_id(s);
+            let one = [id.hi, id.lo];
+            let r = replace::commit_replacement(s, &one, new_lock(ScopeKey::Ecu(255)), 1, 1);
+            sum(r.state)
+        }
+        8 => {
+            let r = acknowledge::acknowledge_defunct(s, first_entry(s));
+            sum(r.state)
+        }
+        _ => {
+            let r = acknowledge::expire_defunct(s, 18446744073709551615);
+            sum(r.state)
+        }
+    }
+}
+
+// 0 copies the state, 1 tests it, the others are the operations.
+fn one(s: LockState, what: u8) -> u64 {
+    if what == 0 {
+        return sum(s);
+    }
+    if what == 1 {
+        return tested(s);
+    }
+    changed(s, what)
+}
+
+fn turns(s: LockState, what: u8, n: u64) -> u64 {
+    let mut a = s;
+    let mut total = 0u64;
+    let mut i = 0u64;
+    while i < n {
+        a.revision = total % 1048576;
+        total = std::num::wrapping_add_u64(total, one(a, what));
+        i += 1;
+    }
+    total
+}
+
+fn main() {
+    let mut input = io::large_buffer();
+    let n = io::read_full(0, &mut input);
+    if n < 2 {
+        return;
+    }
+    let what = input[0];
+    let k = input[1] % 32;
+    let r = image::read::read_image(&input[2..n]);
+    let spare = r.spare;
+    let total = turns(spare.state, what, 1u64 << (k as u64));
+    io::print_decimal(1, total);
+    io::write_all(1, b"\n");
+}
