@@ -5,7 +5,6 @@ use mathlib.Core.Bool.{Bool, true, false, not, cond, _&&_, _||_, true≢false}
 use mathlib.Core.List.{List, [], _∷_}
 use mathlib.Core.Option.{Option, none, some}
 use Prim.Native.Nat.{ℕ}
-use native.Mathlib.Omega.{arith}
 use lib.Dec.{eqb}
 use borrow.Author.Tests.{not-true, not-false, eq-eqb, ne-eqb}
 use Rattle.lists.specs.Tests.{_and_, _or_, non}
@@ -19,11 +18,8 @@ use Rattle.state.specs.Locks.{isVehicle, hasId, hasIdD}
 use Rattle.lookups.specs.Reads.{onScope}
 use Rattle.operations.specs.declared.answers.Answer.{Answer}
 use Rattle.operations.specs.declared.answers.Answer.the-variants.{Done, DuplicateId, DuplicateScope, ParentNotFound, ParentNotVehicle, CoverageConflict, RevisionOverflow, OtherOwner, NotCovered, BadList}
-use Rattle.operations.specs.declared.checks.Seen.{Seen}
-use Rattle.operations.specs.declared.checks.Seen.the-variants.{Nothing, Lock}
 use Rattle.operations.specs.Answers.{isDone, refuseIf, andThen}
 use Rattle.operations.specs.Checks.{checkList, checkId, checkScope, checkParent, checkFound, checkNesting, conflicts, checkConflict, checkClear, checkRevision, atLast, lastRevision, toldChild}
-use Rattle.operations.specs.Code.{seen, misfit}
 
 -- ---- the combinators
 module _ {A : Type 0} (c : Bool) (a b : A) where
@@ -135,48 +131,35 @@ module _ (x p : ActiveLock) (v : Bool) (e : v ≡ isVehicle (p .lock .scope)) wh
       pub parent-4 : not w ≡ false → Done ≡ checkParent x p
       parent-4 t = sym (parent-b ∙ go-on _ _ _ (non-t _ (sym g ∙ not-false w t)))
 
--- ---- what a search saw
-pub saw-lock : (o : Option ActiveLock) (f : Seen) (a : ActiveLock) → f ≡ seen o → f ≡ Lock a → o ≡ some a
-saw-lock none f a e q = let z : _≡_ {A = ℕ} 0 1 = cc in absurd (omega arith)
-saw-lock (some d) f a e q = let z : d ≡ a = cc in ap {B = Option ActiveLock} some z
-
-pub saw-none : (o : Option ActiveLock) (f : Seen) → f ≡ seen o → f ≡ Nothing → o ≡ none
-saw-none none f e q = refl
-saw-none (some d) f e q = let z : _≡_ {A = ℕ} 0 1 = cc in absurd (omega arith)
-
+-- ---- 4, 5, 11.3, 11.4, 7
 module _ (l : List ActiveLock) (x : ActiveLock) where
   pub nesting-none : not (x .child) ≡ true → Done ≡ checkNesting l x
   unfolding checkNesting
   nesting-none t = let e : x .child ≡ false = not-true (x .child) t in rw e
 
-  nesting : not (x .child) ≡ false → checkNesting l x ≡ checkFound x (find (hasId (x .parent)) l)
-  unfolding checkNesting
-  nesting t = let e : x .child ≡ true = not-false (x .child) t in rw e
+  module _ (t : not (x .child) ≡ false) where
+    nesting : checkNesting l x ≡ checkFound x (find (hasId (x .parent)) l)
+    unfolding checkNesting
+    nesting = let e : x .child ≡ true = not-false (x .child) t in rw e
 
-  module _ (t : not (x .child) ≡ false) (f : Seen) (q : f ≡ seen (find (hasId (x .parent)) l)) where
-    pub nesting-hit : (a : ActiveLock) (r : Answer) → f ≡ Lock a → r ≡ checkParent x a → r ≡ checkNesting l x
-    nesting-hit a r h k = k ∙ sym (nesting t ∙ ap (checkFound x) (saw-lock (find (hasId (x .parent)) l) f a q h))
+    pub nesting-hit : (a : ActiveLock) (r : Answer) → find (hasId (x .parent)) l ≡ some a → r ≡ checkParent x a → r ≡ checkNesting l x
+    nesting-hit a r h k = k ∙ sym (nesting ∙ ap (checkFound x) h)
 
-    pub nesting-miss : f ≡ Nothing → ParentNotFound (x .parent) ≡ checkNesting l x
-    nesting-miss h = sym (nesting t ∙ ap (checkFound x) (saw-none (find (hasId (x .parent)) l) f q h))
+    pub nesting-miss : find (hasId (x .parent)) l ≡ none → ParentNotFound (x .parent) ≡ checkNesting l x
+    nesting-miss h = sym (nesting ∙ ap (checkFound x) h)
 
-  module _ (f : Seen) (q : f ≡ seen (find (conflicts x) l)) where
-    pub clear-hit : (a : ActiveLock) → f ≡ Lock a → CoverageConflict (a .lock .id) ≡ checkClear l x
-    unfolding checkClear
-    clear-hit a h = sym (ap checkConflict (saw-lock (find (conflicts x) l) f a q h))
+  pub clear-hit : (a : ActiveLock) → find (conflicts x) l ≡ some a → CoverageConflict (a .lock .id) ≡ checkClear l x
+  unfolding checkClear
+  clear-hit a h = sym (ap checkConflict h)
 
-    pub clear-miss : f ≡ Nothing → Done ≡ checkClear l x
-    unfolding checkClear
-    clear-miss h = sym (ap checkConflict (saw-none (find (conflicts x) l) f q h))
+  pub clear-miss : find (conflicts x) l ≡ none → Done ≡ checkClear l x
+  unfolding checkClear
+  clear-miss h = sym (ap checkConflict h)
 
--- ---- the first child that doesn't fit
-module _ (x : ActiveLock) (o : Option ActiveLock) (f : Seen) (q : f ≡ seen o) where
-  module _ (a : ActiveLock) (h : f ≡ Lock a) where
-    pub child-covered : x .lock .subject ≡ a .lock .subject → NotCovered (a .lock .id) (x .lock .id) ≡ toldChild x o
-    child-covered e = sym (ap (toldChild x) (saw-lock o f a q h) ∙ rw (eq-eqb (x .lock .subject) (a .lock .subject) e))
+-- ---- a child that doesn't fit
+module _ (x a : ActiveLock) where
+  pub child-covered : x .lock .subject ≡ a .lock .subject → NotCovered (a .lock .id) (x .lock .id) ≡ toldChild x (some a)
+  child-covered e = rw (eq-eqb (x .lock .subject) (a .lock .subject) e)
 
-    pub child-owner : (x .lock .subject ≡ a .lock .subject → ⊥) → OtherOwner (a .lock .id) (x .lock .id) ≡ toldChild x o
-    child-owner e = sym (ap (toldChild x) (saw-lock o f a q h) ∙ rw (ne-eqb (x .lock .subject) (a .lock .subject) e))
-
-  pub child-none : f ≡ Nothing → Done ≡ toldChild x o
-  child-none h = sym (ap (toldChild x) (saw-none o f q h))
+  pub child-owner : (x .lock .subject ≡ a .lock .subject → ⊥) → OtherOwner (a .lock .id) (x .lock .id) ≡ toldChild x (some a)
+  child-owner e = rw (ne-eqb (x .lock .subject) (a .lock .subject) e)

@@ -17,8 +17,8 @@ use Rattle.state.specs.declared.DefunctLock.{DefunctLock}
 use Rattle.state.specs.Locks.{dkey, blankDefunct}
 use Rattle.operations.specs.declared.table.Table.{Table}
 use Rattle.operations.specs.Table.{toDefunct, enterAll}
-use Rattle.operations.specs.Code.{placeOf, putAt, entriesOf, tableOf, Laid}
-use Rattle.operations.proofs.Leaving.{laid-long, laid-count, laid-of, entries-back}
+use Rattle.operations.specs.Code.{placeOf, entriesOf, tableOf, Laid}
+use Rattle.operations.proofs.Leaving.{laid-count, laid-of, entries-back}
 
 -- ---- in an array of n places, c of them used
 module _ {A : Type 0} (k : A → ℕ) (i : LockId) (x : A) (e : k x ≡ key i) (n : ℕ) (b : A) (l : List A) (c : ℕ) where
@@ -35,18 +35,10 @@ module _ {A : Type 0} (k : A → ℕ) (i : LockId) (x : A) (e : k x ≡ key i) (
       split : insertBy k x (take c l) ≡ take (placeOf k i (take c l)) (take c l) ++ x ∷ drop (placeOf k i (take c l)) (take c l)
       split = rw e at (insert-split k x (take c l))
 
--- ---- one entry
-module _ (t : Table) (h : Laid t) (d : DefunctLock) (r : t .count < 192) where
-  pub enter-place : placeOf dkey (d .lock .id) (entriesOf t) ≤ t .count
-  enter-place = place-le dkey (d .lock .id) d refl 192 blankDefunct (t .entries) (t .count) (laid-count t h)
-
-  pub enter-is : putAt t (placeOf dkey (d .lock .id) (entriesOf t)) d ≡ tableOf (insertBy dkey d (entriesOf t))
-  enter-is = λ j. record { count = count j; entries = put-in dkey (d .lock .id) d refl 192 blankDefunct (t .entries) (t .count) (laid-count t h) (ap (λ (x : Table). x .entries) (h .same)) r j }
-    where
-      count : t .count + 1 ≡ length (insertBy dkey d (entriesOf t))
-      count = omega (arith, length-insert dkey d (entriesOf t), laid-count t h)
-
 -- ---- several, one after the other
+abbrev pub with-places : ℕ → List DefunctLock → Table
+with-places n l = record { count = n; entries = l }
+
 pub enter-length : (ds t : List DefunctLock) → length (enterAll ds t) ≡ length ds + length t
 enter-length [] t = omega arith
 enter-length (d ∷ ds) t = omega (arith, enter-length ds (insertBy dkey d t), length-insert dkey d t)
@@ -67,6 +59,21 @@ module _ (t : Table) (h : Laid t) (l : List ActiveLock) (x : ActiveLock) (by at 
 
   pub out-laid : i + t .count ≤ 192 → Laid out
   out-laid g = rw q (laid-of (enteredAt t l x by at i) (omega (arith, size)))
+
+  -- one more: k is its place, and then the entries from there on stand one place up
+  module _ (g : i + t .count < 192) (d : DefunctLock) (k : ℕ) (f : k ≡ placeOf dkey (d .lock .id) (entriesOf out)) where
+    pub enter-place : k ≤ out .count
+    enter-place = omega (arith, f, place-le dkey (d .lock .id) d refl 192 blankDefunct (out .entries) (out .count) (laid-count out (out-laid (omega arith))))
+
+    pub enter-is : with-places (out .count + 1) (opened (out .entries) k (out .count) d) ≡ tableOf (insertBy dkey d (entriesOf out))
+    enter-is =
+        let h : Laid out = out-laid (omega arith) in
+        let n : out .count + 1 ≡ length (insertBy dkey d (entriesOf out)) = omega (arith, length-insert dkey d (entriesOf out), laid-count out h) in
+        ap (λ (j : ℕ). with-places (out .count + 1) (opened (out .entries) j (out .count) d)) f
+        ∙ (λ j. record {
+          count = n j;
+          entries = put-in dkey (d .lock .id) d refl 192 blankDefunct (out .entries) (out .count) (laid-count out h) (ap (λ (x : Table). x .entries) (h .same)) (omega (arith, out-count)) j;
+        })
 
   pub one-more : (e : ActiveLock) (d : DefunctLock) (r : Table) → i < length l → d ≡ toDefunct x by at (getD l i e) → r ≡ tableOf (insertBy dkey d (entriesOf out)) → r ≡ tableOf (enteredAt t l x by at (i + 1))
   one-more e d r g f k =

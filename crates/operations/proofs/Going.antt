@@ -1,23 +1,29 @@
--- Active locks that go: the turns of the loops over a tree and over the roots, and the two parts in their places.
+-- Active locks that go: the turns of the loops over a tree and over the roots, by places, and the locks at the places.
 -- Assumes nothing.
 use mathlib.Core.Bool.{Bool, true, false, cond}
-use mathlib.Core.List.{List, [], _∷_, _++_, append-assoc, append-nil}
-use mathlib.Core.Path.{_≡_, refl, sym, ap, _∙_}
+use mathlib.Core.List.{List, [], _∷_, _++_, map, append-assoc, append-nil, List·Memᴰ·append-cases, List·Memᴰ·not-nil, List·Memᴰ·eq-of-singleton}
+use mathlib.Core.Logic.{_⊎_, inl, inr}
+use mathlib.Core.Path.{_≡_, refl, sym, ap, subst, _∙_}
 use Prim.Native.Nat.{ℕ, zero, suc, _+_, _-_, _≤_, _<_}
+use native.Mathlib.Numerals.{add-one}
 use native.Mathlib.Omega.{arith}
-use lib.ListN.{length, getD, set, take, replicate, length-append, length-replicate, length-take}
-use Rattle.lists.specs.Tests.{non}
-use Rattle.lists.specs.Lists.{any, filter}
+use lib.ListN.{length, getD, set, take, replicate, length-append, length-replicate, length-take, length-map}
+use lib.Seq.{take-suc, getD-take}
+use Rattle.lists.specs.Tests.{_or_, non}
+use Rattle.lists.specs.Lists.{any, filter, Mem}
 use Rattle.lists.specs.Places.{inPlaces, Holds}
 use Rattle.lists.proofs.Tests.{non-t, non-f}
-use Rattle.lists.proofs.Loops.{push, keep-yes, keep-no, filter-split, filter-none, filter-all}
+use Rattle.lists.proofs.Lists.{filter→}
+use Rattle.lists.proofs.Places.{mem-at}
+use Rattle.lists.proofs.Loops.{push, keep-yes, keep-no, filter-split, map-more}
 use Rattle.state.specs.declared.ActiveLock.{ActiveLock}
 use Rattle.state.specs.Locks.{hasId, blankActive}
 use Rattle.state.proofs.Laws.{back}
 use Rattle.lookups.specs.Reads.{narrow}
+use Rattle.operations.specs.declared.trees.Places.{Places}
 use Rattle.operations.specs.declared.trees.Split.{Split}
 use Rattle.operations.specs.Trees.{Parts, childOf, takeParts, treeParts, rootParts, cutAll, rootsParts, startParts, isListed}
-use Rattle.operations.specs.Code.{picks, Placed, Cut, partsOf, splitOf}
+use Rattle.operations.specs.Code.{picks, Placed, Cut, partsOf, splitOf, Halves, upTo, startHalves, lockAt, partsIn, takeHalves, picksAt, treeHalves, rootHalves, cutHalves, halvesOf, placesOf, Low, Sorting}
 
 -- ---- the steps by their numbers
 module _ (n : ℕ) (r a : ActiveLock) (b : Bool) where
@@ -36,20 +42,20 @@ picks-2 (suc zero) r a b e f q = absurd (f refl)
 picks-2 (suc (suc n)) r a b e f q = q
 
 -- ---- one pass of two outputs
-module _ (p : ActiveLock → Bool) (b d : ActiveLock) (l g₀ : List ActiveLock) (i : ℕ) (r : Bool) (j : i < length l) (q : r ≡ p (getD l i d)) where
-  pub gone-yes : (out : List ActiveLock) (g : ℕ) → Holds 64 b (g₀ ++ filter p (take i l)) out g → g < 64 → r ≡ true → Holds 64 b (g₀ ++ filter p (take (i + 1) l)) (set out g (getD l i d)) (g + 1)
+module _ {A : Type 0} (p : A → Bool) (b d : A) (l g₀ : List A) (i : ℕ) (r : Bool) (j : i < length l) (q : r ≡ p (getD l i d)) where
+  pub gone-yes : (out : List A) (g : ℕ) → Holds 64 b (g₀ ++ filter p (take i l)) out g → g < 64 → r ≡ true → Holds 64 b (g₀ ++ filter p (take (i + 1) l)) (set out g (getD l i d)) (g + 1)
   gone-yes out g h k t =
       push 64 b (g₀ ++ filter p (take i l)) (g₀ ++ filter p (take (i + 1) l)) out g (getD l i d) h k
       (rw (keep-yes p l i d j (sym q ∙ t)) (sym (append-assoc g₀ (filter p (take i l)) (getD l i d ∷ []))))
 
-  pub gone-no : (out : List ActiveLock) (g : ℕ) → Holds 64 b (g₀ ++ filter p (take i l)) out g → r ≡ false → Holds 64 b (g₀ ++ filter p (take (i + 1) l)) out g
+  pub gone-no : (out : List A) (g : ℕ) → Holds 64 b (g₀ ++ filter p (take i l)) out g → r ≡ false → Holds 64 b (g₀ ++ filter p (take (i + 1) l)) out g
   gone-no out g h t = rw (keep-no p l i d j (sym q ∙ t)) h
 
-  pub kept-yes : (out : List ActiveLock) (w : ℕ) → Holds 64 b (filter (λ a. non (p a)) (take i l)) out w → w < 64 → r ≡ false → Holds 64 b (filter (λ a. non (p a)) (take (i + 1) l)) (set out w (getD l i d)) (w + 1)
+  pub kept-yes : (out : List A) (w : ℕ) → Holds 64 b (filter (λ a. non (p a)) (take i l)) out w → w < 64 → r ≡ false → Holds 64 b (filter (λ a. non (p a)) (take (i + 1) l)) (set out w (getD l i d)) (w + 1)
   kept-yes out w h k t =
       push 64 b (filter (λ a. non (p a)) (take i l)) (filter (λ a. non (p a)) (take (i + 1) l)) out w (getD l i d) h k (keep-yes (λ a. non (p a)) l i d j (non-f _ (sym q ∙ t)))
 
-  pub kept-no : (out : List ActiveLock) (w : ℕ) → Holds 64 b (filter (λ a. non (p a)) (take i l)) out w → r ≡ true → Holds 64 b (filter (λ a. non (p a)) (take (i + 1) l)) out w
+  pub kept-no : (out : List A) (w : ℕ) → Holds 64 b (filter (λ a. non (p a)) (take i l)) out w → r ≡ true → Holds 64 b (filter (λ a. non (p a)) (take (i + 1) l)) out w
   kept-no out w h t = rw (keep-no (λ a. non (p a)) l i d j (non-t _ (sym q ∙ t))) h
 
 -- ---- locks in their places
@@ -65,125 +71,234 @@ module _ (s : Split) (c : Cut s) where
   pub kept-count : length (partsOf s .kept) ≡ s .left
   kept-count = ap (λ (x : Split). x .left) (c .same)
 
-  pub gone-count : length (partsOf s .gone) ≡ s .gone
-  gone-count = ap (λ (x : Split). x .gone) (c .same)
-
-  gone-in : inPlaces 64 blankActive (partsOf s .gone) ≡ s .removed
-  gone-in = ap (λ (x : Split). x .removed) (c .same)
-
-  pub gone-start : Holds 64 blankActive (partsOf s .gone ++ []) (s .removed) (s .gone)
-  gone-start = rw (append-nil (partsOf s .gone)) (sym gone-in, sym gone-count)
-
   pub kept-placed : Placed (s .kept) (s .left)
   kept-placed = record { room = omega (arith, c .room); same = ap (λ (x : Split). x .kept) (c .same) }
-
-  -- a step that takes nothing
-  pub none-taken : (p : ActiveLock → Bool) → any p (partsOf s .kept) ≡ false → s ≡ splitOf (takeParts p (partsOf s))
-  none-taken p e =
-      sym (c .same) ∙ ap splitOf (λ j. record {
-        kept = sym (filter-all p (λ a. non (p a)) (λ a t. non-f (p a) t) (partsOf s .kept) e) j;
-        gone = (sym (append-nil (partsOf s .gone)) ∙ ap (λ (x : List ActiveLock). partsOf s .gone ++ x) (sym (filter-none p (partsOf s .kept) e))) j;
-      })
-
-abbrev pub sizeOf : Parts → ℕ
-sizeOf m = length (m .kept) + length (m .gone)
 
 pub parts-back : (m : Parts) → partsOf (splitOf m) ≡ m
 parts-back m = λ j. record { kept = back 64 blankActive (m .kept) j; gone = back 64 blankActive (m .gone) j }
 
-pub cut-of : (m : Parts) → sizeOf m ≤ 64 → Cut (splitOf m)
+pub cut-of : (m : Parts) → length (m .kept) + length (m .gone) ≤ 64 → Cut (splitOf m)
 cut-of m h = record { room = h; same = ap splitOf (parts-back m) }
 
-take-size : (p : ActiveLock → Bool) (m : Parts) → sizeOf (takeParts p m) ≡ sizeOf m
+-- what stands at one of the first n places
+pub low-of : (ks : List ℕ) (n i : ℕ) → Low (take n ks) → i < n → n ≤ length ks → getD ks i 0 < 64
+low-of ks n i h g w = h (getD ks i 0) (subst (λ (j : ℕ). Mem j (take n ks)) (getD-take n ks i 0 g) (mem-at (take n ks) i 0 (omega (arith, length-take n ks))))
+
+pub any-map : {A B : Type 0} (f : A → B) (p : B → Bool) (ks : List A) → any (λ j. p (f j)) ks ≡ any p (map f ks)
+any-map f p [] = refl
+any-map f p (k ∷ ks) = ap (λ (b : Bool). p (f k) or b) (any-map f p ks)
+
+-- ---- the halves in their places
+module _ (s : Places) (h : Sorting s) where
+  pub left-count : length (halvesOf s .kept) ≡ s .left
+  left-count = ap (λ (x : Places). x .left) (h .same)
+
+  pub gone-count : length (halvesOf s .gone) ≡ s .gone
+  gone-count = ap (λ (x : Places). x .gone) (h .same)
+
+  pub gone-start : Holds 64 0 (halvesOf s .gone ++ []) (s .went) (s .gone)
+  gone-start = rw (append-nil (halvesOf s .gone)) (sym (ap (λ (x : Places). x .went) (h .same)), sym gone-count)
+
+-- few enough, and each one of 64
+record Fine (h : Halves) : Type 0 where
+  few : length (h .kept) + length (h .gone) ≤ 64
+  stays : Low (h .kept)
+  goes : Low (h .gone)
+
+pub halves-back : (h : Halves) → halvesOf (placesOf h) ≡ h
+halves-back h = λ j. record { kept = back 64 0 (h .kept) j; gone = back 64 0 (h .gone) j }
+
+sorting-of : (h : Halves) → Fine h → Sorting (placesOf h)
+sorting-of h f = record {
+  room = f .few;
+  same = ap placesOf (halves-back h);
+  stays = rw (back 64 0 (h .kept)) (f .stays);
+  goes = rw (back 64 0 (h .gone)) (f .goes);
+}
+
+fine-of : (s : Places) → Sorting s → Fine (halvesOf s)
+fine-of s h = record { few = omega (arith, left-count s h, gone-count s h, h .room); stays = h .stays; goes = h .goes }
+
+take-fine : (q : ℕ → Bool) (h : Halves) → Fine h → Fine (takeHalves q h)
+take-fine q h f = record {
+  few = omega (arith, f .few, filter-split q (h .kept), length-append (h .gone) (filter q (h .kept)));
+  stays = λ j m. f .stays j (filter→ (λ i. non (q i)) (h .kept) m .0);
+  goes = λ j m. elim (List·Memᴰ·append-cases (h .gone) m) as (λ w. j < 64) [ inl u ↦ f .goes j u | inr u ↦ f .stays j (filter→ q (h .kept) u .0) ];
+}
+
+tree-fine : (l : List ActiveLock) (r : ActiveLock) (h : Halves) → Fine h → Fine (treeHalves l r h)
+tree-fine l r h f = take-fine (picksAt 2 l r) _ (take-fine (picksAt 1 l r) _ (take-fine (picksAt 0 l r) h f))
+
+root-fine : (l : List ActiveLock) (r : ActiveLock) (h : Halves) → Fine h → Fine (rootHalves l r h)
+unfolding rootHalves
+root-fine l r h f = go (any (hasId (r .lock .id)) (map (lockAt l) (h .kept)))
+  where
+    go : (b : Bool) → Fine (cond b (treeHalves l r h) h)
+    go true = tree-fine l r h f
+    go false = f
+
+all-fine : (l rs : List ActiveLock) (h : Halves) → Fine h → Fine (cutHalves l rs h)
+all-fine l [] h f = f
+all-fine l (r ∷ rs) h f = all-fine l rs (rootHalves l r h) (root-fine l r h f)
+
+up-long : (n : ℕ) → length (upTo n) ≡ n
+up-long zero = refl
+up-long (suc n) = length-append (upTo n) (n ∷ []) ∙ omega (arith, up-long n)
+
+up-low : (n : ℕ) → n ≤ 64 → Low (upTo n)
+up-low zero h j m = absurd (List·Memᴰ·not-nil m)
+up-low (suc n) h j m = elim (List·Memᴰ·append-cases (upTo n) m) as (λ w. j < 64) [ inl u ↦ up-low n (omega arith) j u | inr u ↦ omega (arith, List·Memᴰ·eq-of-singleton u) ]
+
+pub up-more : (i : ℕ) → upTo (i + 1) ≡ upTo i ++ (i ∷ [])
+up-more i = ap upTo (add-one i)
+
+start-fine : (n : ℕ) → n ≤ 64 → Fine (startHalves n)
+start-fine n h = record { few = omega (arith, up-long n); stays = up-low n h; goes = λ j m. absurd (List·Memᴰ·not-nil m) }
+
+-- ---- one tree, step by step
+module _ (s a : Places) (l : List ActiveLock) (r : ActiveLock) (c : Sorting s) (p : a ≡ placesOf (takeHalves (picksAt 0 l r) (halvesOf s))) where
+  pub step-1 : Sorting a
+  step-1 = rw p (sorting-of _ (take-fine (picksAt 0 l r) (halvesOf s) (fine-of s c)))
+
+  module _ (b : Places) (q : b ≡ placesOf (takeHalves (picksAt 1 l r) (halvesOf a))) where
+    second : b ≡ placesOf (takeHalves (picksAt 1 l r) (takeHalves (picksAt 0 l r) (halvesOf s)))
+    second = q ∙ ap (λ (h : Halves). placesOf (takeHalves (picksAt 1 l r) h)) (ap halvesOf p ∙ halves-back (takeHalves (picksAt 0 l r) (halvesOf s)))
+
+    pub step-2 : Sorting b
+    step-2 = rw second (sorting-of _ (take-fine (picksAt 1 l r) _ (take-fine (picksAt 0 l r) (halvesOf s) (fine-of s c))))
+
+    pub step-3 : (x : Places) → x ≡ placesOf (takeHalves (picksAt 2 l r) (halvesOf b)) → x ≡ placesOf (treeHalves l r (halvesOf s))
+    step-3 x k = k ∙ ap (λ (h : Halves). placesOf (takeHalves (picksAt 2 l r) h)) (ap halvesOf second ∙ halves-back (takeHalves (picksAt 1 l r) (takeHalves (picksAt 0 l r) (halvesOf s))))
+
+-- ---- a root
+module _ (s : Places) (l : List ActiveLock) (r : ActiveLock) (c : Sorting s) (b : Bool) (e : b ≡ any (hasId (r .lock .id)) (map (lockAt l) (halvesOf s .kept))) where
+  pub root-here : (x : Places) → b ≡ true → x ≡ placesOf (treeHalves l r (halvesOf s)) → x ≡ placesOf (rootHalves l r (halvesOf s))
+  unfolding rootHalves
+  root-here x t k = let f : any (hasId (r .lock .id)) (map (lockAt l) (halvesOf s .kept)) ≡ true = sym e ∙ t in rw f k
+
+  pub root-not : b ≡ false → s ≡ placesOf (rootHalves l r (halvesOf s))
+  unfolding rootHalves
+  root-not t = let f : any (hasId (r .lock .id)) (map (lockAt l) (halvesOf s .kept)) ≡ false = sym e ∙ t in rw f (sym (c .same))
+
+-- ---- the locks at the places
+map-filter : {A B : Type 0} (f : A → B) (p : B → Bool) (ks : List A) → map f (filter (λ j. p (f j)) ks) ≡ filter p (map f ks)
+map-filter f p [] = refl
+map-filter f p (k ∷ ks) = go (p (f k)) (map-filter f p ks)
+  where
+    go : (b : Bool) → map f (filter (λ j. p (f j)) ks) ≡ filter p (map f ks) → map f (cond b (k ∷ filter (λ j. p (f j)) ks) (filter (λ j. p (f j)) ks)) ≡ cond b (f k ∷ filter p (map f ks)) (filter p (map f ks))
+    go true e = ap (λ t. f k ∷ t) e
+    go false e = e
+
+map-both : {A B : Type 0} (f : A → B) (s t : List A) → map f (s ++ t) ≡ map f s ++ map f t
+map-both f [] t = refl
+map-both f (x ∷ xs) t = ap (λ r. f x ∷ r) (map-both f xs t)
+
+module _ (l : List ActiveLock) where
+  take-in : (n : ℕ) (r : ActiveLock) (h : Halves) → partsIn l (takeHalves (picksAt n l r) h) ≡ takeParts (picks n r) (partsIn l h)
+  take-in n r h = λ j. record {
+    kept = map-filter (lockAt l) (λ a. non (picks n r a)) (h .kept) j;
+    gone = (map-both (lockAt l) (h .gone) (filter (picksAt n l r) (h .kept)) ∙ ap (λ (t : List ActiveLock). map (lockAt l) (h .gone) ++ t) (map-filter (lockAt l) (picks n r) (h .kept))) j;
+  }
+
+  pub tree-in : (r : ActiveLock) (h : Halves) → partsIn l (treeHalves l r h) ≡ treeParts r (partsIn l h)
+  unfolding treeParts picks
+  tree-in r h =
+      take-in 2 r (takeHalves (picksAt 1 l r) (takeHalves (picksAt 0 l r) h))
+      ∙ ap (takeParts (picks 2 r)) (take-in 1 r (takeHalves (picksAt 0 l r) h) ∙ ap (takeParts (picks 1 r)) (take-in 0 r h))
+
+  root-in : (r : ActiveLock) (h : Halves) → partsIn l (rootHalves l r h) ≡ rootParts r (partsIn l h)
+  unfolding rootHalves rootParts
+  root-in r h = go (any (hasId (r .lock .id)) (map (lockAt l) (h .kept)))
+    where
+      go : (b : Bool) → partsIn l (cond b (treeHalves l r h) h) ≡ cond b (treeParts r (partsIn l h)) (partsIn l h)
+      go true = tree-in r h
+      go false = refl
+
+  all-in : (rs : List ActiveLock) (h : Halves) → partsIn l (cutHalves l rs h) ≡ cutAll rs (partsIn l h)
+  all-in [] h = refl
+  all-in (r ∷ rs) h = all-in rs (rootHalves l r h) ∙ ap (cutAll rs) (root-in r h)
+
+  up-in : (n : ℕ) → n ≤ length l → map (lockAt l) (upTo n) ≡ take n l
+  up-in zero h = refl
+  up-in (suc n) h = map-more (lockAt l) (upTo n) n ∙ ap (λ (t : List ActiveLock). t ++ (lockAt l n ∷ [])) (up-in n (omega arith)) ∙ sym (take-suc l n blankActive (omega arith))
+
+  start-in : (n : ℕ) → n ≤ length l → partsIn l (startHalves n) ≡ startParts (take n l)
+  start-in n h = λ j. record { kept = up-in n h j; gone = [] }
+
+  -- in a split
+  pub split-is : (s : Places) → Sorting s → (k w : List ActiveLock) → k ≡ inPlaces 64 blankActive (partsIn l (halvesOf s) .kept) → w ≡ inPlaces 64 blankActive (partsIn l (halvesOf s) .gone) → record { left = s .left; kept = k; gone = s .gone; removed = w } ≡ splitOf (partsIn l (halvesOf s))
+  split-is s h k w e f = λ j. record {
+    left = (sym (left-count s h) ∙ sym (length-map (halvesOf s .kept) (lockAt l))) j;
+    kept = e j;
+    gone = (sym (gone-count s h) ∙ sym (length-map (halvesOf s .gone) (lockAt l))) j;
+    removed = f j;
+  }
+
+-- ---- from the start
+module _ (n : ℕ) (h : n ≤ 64) (s : Places) (e : s ≡ placesOf (startHalves n)) where
+  pub start-sorting : Sorting s
+  start-sorting = rw e (sorting-of (startHalves n) (start-fine n h))
+
+  module _ (l : List ActiveLock) (r : ActiveLock) (t : Places) (f : t ≡ placesOf (treeHalves l r (halvesOf s))) where
+    cut-is : t ≡ placesOf (treeHalves l r (startHalves n))
+    cut-is = f ∙ ap (λ (h : Halves). placesOf (treeHalves l r h)) (ap halvesOf e ∙ halves-back (startHalves n))
+
+    pub tree-sorting : Sorting t
+    tree-sorting = rw cut-is (sorting-of _ (tree-fine l r (startHalves n) (start-fine n h)))
+
+    pub tree-split : n ≤ length l → (x : Split) → x ≡ splitOf (partsIn l (halvesOf t)) → x ≡ splitOf (treeParts r (startParts (take n l)))
+    tree-split w x k = k ∙ ap (λ (y : Places). splitOf (partsIn l (halvesOf y))) cut-is ∙ ap (λ (y : Halves). splitOf (partsIn l y)) (halves-back (treeHalves l r (startHalves n)))
+        ∙ ap splitOf (tree-in l r (startHalves n) ∙ ap (treeParts r) (start-in l n w))
+
+-- ---- the roots, one after the other
+all-more : (l rs : List ActiveLock) (r : ActiveLock) (h : Halves) → cutHalves l (rs ++ (r ∷ [])) h ≡ rootHalves l r (cutHalves l rs h)
+all-more l [] r h = refl
+all-more l (x ∷ xs) r h = all-more l xs r (rootHalves l x h)
+
+-- after the roots among the first k places
+abbrev pub halvesAt : List ℕ → List ActiveLock → ℕ → ℕ → Halves
+halvesAt ws l n k = cutHalves l (filter (isListed ws) (take k l)) (startHalves n)
+
+module _ (ws : List ℕ) (l : List ActiveLock) (n i : ℕ) (p : Placed l n) (out : Places) (q : out ≡ placesOf (halvesAt ws l n i)) where
+  pub out-sorting : Sorting out
+  out-sorting = rw q (sorting-of (halvesAt ws l n i) (all-fine l (filter (isListed ws) (take i l)) (startHalves n) (start-fine n (p .room))))
+
+  module _ (d : ActiveLock) (h : i < length l) (b : Bool) (e : b ≡ isListed ws (getD l i d)) where
+    pub roots-more : (r : Places) → b ≡ true → r ≡ placesOf (rootHalves l (getD l i d) (halvesOf out)) → r ≡ placesOf (halvesAt ws l n (i + 1))
+    roots-more r t k =
+        k ∙ ap (λ (y : Halves). placesOf (rootHalves l (getD l i d) y)) (ap halvesOf q ∙ halves-back (halvesAt ws l n i))
+        ∙ ap placesOf (sym (all-more l (filter (isListed ws) (take i l)) (getD l i d) (startHalves n)))
+        ∙ ap (λ (x : List ActiveLock). placesOf (cutHalves l x (startHalves n))) (sym (keep-yes (isListed ws) l i d h (sym e ∙ t)))
+
+    pub roots-same : b ≡ false → out ≡ placesOf (halvesAt ws l n (i + 1))
+    roots-same t = q ∙ ap (λ (x : List ActiveLock). placesOf (cutHalves l x (startHalves n))) (sym (keep-no (isListed ws) l i d h (sym e ∙ t)))
+
+  pub roots-end : i ≡ n → (x : Split) → x ≡ splitOf (partsIn l (halvesOf out)) → x ≡ splitOf (rootsParts ws (take n l))
+  unfolding rootsParts
+  roots-end e x k =
+      k ∙ ap (λ (y : Places). splitOf (partsIn l (halvesOf y))) q ∙ ap (λ (y : Halves). splitOf (partsIn l y)) (halves-back (halvesAt ws l n i))
+      ∙ ap (λ (m : ℕ). splitOf (partsIn l (halvesAt ws l n m))) e
+      ∙ ap splitOf (all-in l (filter (isListed ws) (take n l)) (startHalves n) ∙ ap (cutAll (filter (isListed ws) (take n l))) (start-in l n (placed-long l n p)))
+
+-- ---- how many there are in all
+abbrev part-size : Parts → ℕ
+part-size m = length (m .kept) + length (m .gone)
+
+take-size : (p : ActiveLock → Bool) (m : Parts) → part-size (takeParts p m) ≡ part-size m
 take-size p m = omega (arith, filter-split p (m .kept), length-append (m .gone) (filter p (m .kept)))
 
-tree-size : (r : ActiveLock) (m : Parts) → sizeOf (treeParts r m) ≡ sizeOf m
-unfolding treeParts
-tree-size r m =
-    take-size (hasId (r .lock .id)) (takeParts (narrow r) (takeParts (childOf r) m)) ∙ take-size (narrow r) (takeParts (childOf r) m) ∙ take-size (childOf r) m
-
-root-size : (r : ActiveLock) (m : Parts) → sizeOf (rootParts r m) ≡ sizeOf m
-unfolding rootParts
+root-size : (r : ActiveLock) (m : Parts) → part-size (rootParts r m) ≡ part-size m
+unfolding rootParts treeParts
 root-size r m = go (any (hasId (r .lock .id)) (m .kept))
   where
-    go : (b : Bool) → sizeOf (cond b (treeParts r m) m) ≡ sizeOf m
-    go true = tree-size r m
+    go : (b : Bool) → part-size (cond b (treeParts r m) m) ≡ part-size m
+    go true = take-size (hasId (r .lock .id)) (takeParts (narrow r) (takeParts (childOf r) m)) ∙ take-size (narrow r) (takeParts (childOf r) m) ∙ take-size (childOf r) m
     go false = refl
 
-all-size : (rs : List ActiveLock) (m : Parts) → sizeOf (cutAll rs m) ≡ sizeOf m
+all-size : (rs : List ActiveLock) (m : Parts) → part-size (cutAll rs m) ≡ part-size m
 all-size [] m = refl
 all-size (r ∷ rs) m = all-size rs (rootParts r m) ∙ root-size r m
 
-pub roots-size : (ws : List ℕ) (l : List ActiveLock) → sizeOf (rootsParts ws l) ≡ length l
+pub roots-size : (ws : List ℕ) (l : List ActiveLock) → length (rootsParts ws l .kept) + length (rootsParts ws l .gone) ≡ length l
 unfolding rootsParts
 roots-size ws l = all-size (filter (isListed ws) l) (startParts l) ∙ omega arith
-
--- ---- one tree, step by step
-picks-are : (r : ActiveLock) (m : Parts) → takeParts (picks 2 r) (takeParts (picks 1 r) (takeParts (picks 0 r) m)) ≡ treeParts r m
-unfolding treeParts picks
-picks-are r m = refl
-
-module _ (s a : Split) (r : ActiveLock) (c : Cut s) (p : a ≡ splitOf (takeParts (picks 0 r) (partsOf s))) where
-  size-0 : sizeOf (takeParts (picks 0 r) (partsOf s)) ≤ 64
-  size-0 = omega (arith, take-size (picks 0 r) (partsOf s), kept-count s c, gone-count s c, c .room)
-
-  pub step-1 : Cut a
-  step-1 = rw p (cut-of (takeParts (picks 0 r) (partsOf s)) size-0)
-
-  module _ (b : Split) (q : b ≡ splitOf (takeParts (picks 1 r) (partsOf a))) where
-    second : b ≡ splitOf (takeParts (picks 1 r) (takeParts (picks 0 r) (partsOf s)))
-    second = q ∙ ap (λ (m : Parts). splitOf (takeParts (picks 1 r) m)) (ap partsOf p ∙ parts-back (takeParts (picks 0 r) (partsOf s)))
-
-    pub step-2 : Cut b
-    step-2 = rw second (cut-of (takeParts (picks 1 r) (takeParts (picks 0 r) (partsOf s))) (omega (arith, size-0, take-size (picks 1 r) (takeParts (picks 0 r) (partsOf s)))))
-
-    pub step-3 : (x : Split) → x ≡ splitOf (takeParts (picks 2 r) (partsOf b)) → x ≡ splitOf (treeParts r (partsOf s))
-    step-3 x k = k ∙ ap (λ (m : Parts). splitOf (takeParts (picks 2 r) m)) (ap partsOf second ∙ parts-back (takeParts (picks 1 r) (takeParts (picks 0 r) (partsOf s)))) ∙ ap splitOf (picks-are r (partsOf s))
-
--- ---- a root
-module _ (s : Split) (r : ActiveLock) (c : Cut s) (b : Bool) (e : b ≡ any (hasId (r .lock .id)) (partsOf s .kept)) where
-  pub root-here : (x : Split) → b ≡ true → x ≡ splitOf (treeParts r (partsOf s)) → x ≡ splitOf (rootParts r (partsOf s))
-  unfolding rootParts
-  root-here x t k = let f : any (hasId (r .lock .id)) (partsOf s .kept) ≡ true = sym e ∙ t in rw f k
-
-  pub root-not : b ≡ false → s ≡ splitOf (rootParts r (partsOf s))
-  unfolding rootParts
-  root-not t = let f : any (hasId (r .lock .id)) (partsOf s .kept) ≡ false = sym e ∙ t in rw f (sym (c .same))
-
--- ---- from the start
-module _ (l : List ActiveLock) (n : ℕ) (h : Placed l n) (s : Split) (e : s ≡ splitOf (startParts (take n l))) where
-  pub start-cut : Cut s
-  start-cut = rw e (cut-of (startParts (take n l)) (omega (arith, placed-count l n h, h .room)))
-
-  pub start-parts : partsOf s ≡ startParts (take n l)
-  start-parts = ap partsOf e ∙ parts-back (startParts (take n l))
-
--- ---- the roots, one after the other
-all-more : (rs : List ActiveLock) (r : ActiveLock) (m : Parts) → cutAll (rs ++ (r ∷ [])) m ≡ rootParts r (cutAll rs m)
-all-more [] r m = refl
-all-more (x ∷ xs) r m = all-more xs r (rootParts x m)
-
--- after the roots among the first k places
-abbrev pub partsAt : List ℕ → List ActiveLock → ℕ → ℕ → Parts
-partsAt ws l n k = cutAll (filter (isListed ws) (take k l)) (startParts (take n l))
-
-module _ (ws : List ℕ) (l : List ActiveLock) (n i : ℕ) (p : Placed l n) (out : Split) (q : out ≡ splitOf (partsAt ws l n i)) where
-  parts : partsOf out ≡ partsAt ws l n i
-  parts = ap partsOf q ∙ parts-back (partsAt ws l n i)
-
-  pub out-cut : Cut out
-  out-cut = rw q (cut-of (partsAt ws l n i) (omega (arith, all-size (filter (isListed ws) (take i l)) (startParts (take n l)), placed-count l n p, p .room)))
-
-  module _ (d : ActiveLock) (h : i < length l) (b : Bool) (e : b ≡ isListed ws (getD l i d)) where
-    pub roots-more : (r : Split) → b ≡ true → r ≡ splitOf (rootParts (getD l i d) (partsOf out)) → r ≡ splitOf (partsAt ws l n (i + 1))
-    roots-more r t k =
-        k ∙ ap (λ (m : Parts). splitOf (rootParts (getD l i d) m)) parts
-        ∙ ap splitOf (sym (all-more (filter (isListed ws) (take i l)) (getD l i d) (startParts (take n l))))
-        ∙ ap (λ (x : List ActiveLock). splitOf (cutAll x (startParts (take n l)))) (sym (keep-yes (isListed ws) l i d h (sym e ∙ t)))
-
-    pub roots-same : b ≡ false → out ≡ splitOf (partsAt ws l n (i + 1))
-    roots-same t = q ∙ ap (λ (x : List ActiveLock). splitOf (cutAll x (startParts (take n l)))) (sym (keep-no (isListed ws) l i d h (sym e ∙ t)))
-
-  pub roots-end : i ≡ n → out ≡ splitOf (rootsParts ws (take n l))
-  unfolding rootsParts
-  roots-end e = rw e at q

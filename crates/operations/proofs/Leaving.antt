@@ -25,7 +25,7 @@ use Rattle.state.specs.declared.ActiveLock.{ActiveLock}
 use Rattle.state.specs.declared.DefunctLock.{DefunctLock}
 use Rattle.state.specs.declared.Lock.{Lock}
 use Rattle.state.specs.Locks.{dkey, hasIdD, blankDefunct}
-use Rattle.state.proofs.Laws.{back}
+use Rattle.state.proofs.Laws.{back, length-places}
 use Rattle.operations.specs.declared.table.Table.{Table}
 use Rattle.operations.specs.Table.{redirect, other, dropEntry, dropFound, removeD, removeAll, superseded, supersede}
 use Rattle.operations.specs.Code.{flagged, unflagged, tookOver, handStep, handOn, entriesOf, tableOf, Laid, Ranked}
@@ -200,6 +200,9 @@ module _ (t : Table) (h : Laid t) where
 
   pub laid-count : length (entriesOf t) ≡ t .count
   laid-count = ap (λ (x : Table). x .count) (h .same)
+
+  pub laid-wide : length (t .entries) ≡ 192
+  laid-wide = sym (ap (λ (x : Table). length (x .entries)) (h .same)) ∙ length-places 192 blankDefunct (entriesOf t) (omega (arith, laid-count, h .room))
 
 pub entries-back : (l : List DefunctLock) → entriesOf (tableOf l) ≡ l
 entries-back l = back 192 blankDefunct l

@@ -1,14 +1,13 @@
 -- Helpers of the code alone: the lists in their places, as the code passes them from function to function.
 use mathlib.Core.Bool.{Bool, true, false, cond}
-use mathlib.Core.List.{List, [], _∷_, map}
-use mathlib.Core.Option.{Option, none, some}
+use mathlib.Core.List.{List, [], _∷_, _++_, map}
 use mathlib.Core.Path.{_≡_}
-use Prim.Native.Nat.{ℕ, zero, suc, _+_, _≤_}
+use Prim.Native.Nat.{ℕ, zero, suc, _+_, _≤_, _<_}
 use lib.Dec.{eqb, ltb}
 use lib.ListN.{length, getD, take}
 use Rattle.lists.specs.Tests.{_or_, non, Yes}
-use Rattle.lists.specs.Lists.{ascending, insertBy}
-use Rattle.lists.specs.Places.{inPlaces, leading, opened}
+use Rattle.lists.specs.Lists.{any, filter, Mem, ascending, insertBy}
+use Rattle.lists.specs.Places.{inPlaces, leading}
 use Rattle.ids.specs.declared.LockId.{LockId}
 use Rattle.ids.specs.Order.{key}
 use Rattle.coverage.specs.Coverage.{within}
@@ -20,8 +19,7 @@ use Rattle.state.specs.Model.{Model, modelOf, full, Tidy}
 use Rattle.lookups.specs.Reads.{narrow}
 use Rattle.operations.specs.declared.answers.Answer.{Answer}
 use Rattle.operations.specs.declared.answers.Replaced.{Replaced}
-use Rattle.operations.specs.declared.checks.Seen.{Seen}
-use Rattle.operations.specs.declared.checks.Seen.the-variants.{Nothing, Lock}
+use Rattle.operations.specs.declared.trees.Places.{Places}
 use Rattle.operations.specs.declared.trees.Split.{Split}
 use Rattle.operations.specs.declared.table.Table.{Table}
 use Rattle.operations.specs.Trees.{childOf, Parts}
@@ -81,6 +79,57 @@ pub record Cut (s : Split) : Type 0 where
   pub room : s .left + s .gone ≤ 64
   pub same : splitOf (partsOf s) ≡ s
 
+-- ---- the same by places: the code moves numbers of places, and the locks once, at the end
+pub record Halves : Type 0 where
+  pub kept : List ℕ
+  pub gone : List ℕ
+
+abbrev pub upTo : ℕ → List ℕ
+upTo zero = []
+upTo (suc n) = upTo n ++ (n ∷ [])
+
+abbrev pub startHalves : ℕ → Halves
+startHalves n = record { kept = upTo n; gone = [] }
+
+abbrev pub lockAt : List ActiveLock → ℕ → ActiveLock
+lockAt l j = getD l j blankActive
+
+-- the locks at the places
+abbrev pub partsIn : List ActiveLock → Halves → Parts
+partsIn l h = record { kept = map (lockAt l) (h .kept); gone = map (lockAt l) (h .gone) }
+
+abbrev pub takeHalves : (ℕ → Bool) → Halves → Halves
+takeHalves q h = record { kept = filter (λ j. non (q j)) (h .kept); gone = h .gone ++ filter q (h .kept) }
+
+abbrev pub picksAt : ℕ → List ActiveLock → ActiveLock → ℕ → Bool
+picksAt n l r j = picks n r (lockAt l j)
+
+abbrev pub treeHalves : List ActiveLock → ActiveLock → Halves → Halves
+treeHalves l r h = takeHalves (picksAt 2 l r) (takeHalves (picksAt 1 l r) (takeHalves (picksAt 0 l r) h))
+
+unfoldable pub rootHalves : List ActiveLock → ActiveLock → Halves → Halves
+rootHalves l r h = cond (any (hasId (r .lock .id)) (map (lockAt l) (h .kept))) (treeHalves l r h) h
+
+abbrev pub cutHalves : List ActiveLock → List ActiveLock → Halves → Halves
+cutHalves l [] h = h
+cutHalves l (r ∷ rs) h = cutHalves l rs (rootHalves l r h)
+
+abbrev pub halvesOf : Places → Halves
+halvesOf s = record { kept = take (s .left) (s .kept); gone = take (s .gone) (s .went) }
+
+abbrev pub placesOf : Halves → Places
+placesOf h = record { left = length (h .kept); kept = inPlaces 64 0 (h .kept); gone = length (h .gone); went = inPlaces 64 0 (h .gone) }
+
+-- every place is one of 64
+abbrev pub Low : List ℕ → Type 0
+Low ks = (j : ℕ) → Mem j ks → j < 64
+
+pub record Sorting (s : Places) : Type 0 where
+  pub room : s .left + s .gone ≤ 64
+  pub same : placesOf (halvesOf s) ≡ s
+  pub stays : Low (halvesOf s .kept)
+  pub goes : Low (halvesOf s .gone)
+
 -- ---- the table of defunct entries
 abbrev pub entriesOf : Table → List DefunctLock
 entriesOf t = take (t .count) (t .entries)
@@ -110,14 +159,7 @@ unfoldable pub handOn : List Bool → ℕ → List DefunctLock → List DefunctL
 handOn goes zero l = l
 handOn goes (suc i) l = handStep (getD goes i false) i (handOn goes i l)
 
-abbrev pub putAt : Table → ℕ → DefunctLock → Table
-putAt t k d = record { count = t .count + 1; entries = opened (t .entries) k (t .count) d }
-
 -- ---- checks
-abbrev pub seen : Option ActiveLock → Seen
-seen none = Nothing
-seen (some a) = Lock a
-
 -- a lock that the vehicle lock x can't take in
 unfoldable pub misfit : ActiveLock → ActiveLock → Bool
 misfit x a = non (eqb (x .lock .subject) (a .lock .subject)) or non (within (a .lock .coverage) (x .lock .coverage))

@@ -4,7 +4,7 @@ use ids::LockId;
 use state::ActiveLock;
 use state::LockState;
 ghost use mathlib.Core.Path.{_≡_};
-ghost use Rattle.operations.specs.Answers.{isDone};
+ghost use Rattle.operations.specs.Answers.{isDone, andThen};
 
 // insert_active, insert_vehicle, commit_replacement. The Invariant's four reasons have names of their own
 // (11.1 NotRootVehicle, 11.2 BadChild, 11.3 OtherOwner, 11.4 NotCovered); Invariant is the closing check's.
@@ -137,4 +137,14 @@ pub(crate) fn is_done(a: Answer) -> bool
     ensures { λ r. ⌜ r ≡ isDone a ⌝ }
 {
     if let Answer::Done = a { true } else { false }
+}
+
+// The first of two checks that refuses.
+pub(crate) fn and_then(a: Answer, b: Answer) -> Answer
+    ensures { λ r. ⌜ r ≡ andThen a b ⌝ }
+{
+    if is_done(a) {
+        return b;
+    }
+    a
 }

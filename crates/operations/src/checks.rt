@@ -6,21 +6,14 @@ use crate::trees;
 use ids::LockId;
 use state::ActiveLock;
 use state::DefunctLock;
-use state::ScopeKey;
+ghost use mathlib.Core.Option.{some};
 ghost use mathlib.Core.Path.{_≡_};
 ghost use Prim.Native.Nat.{ℕ, _≤_};
 ghost use lib.ListN.{take};
 ghost use Rattle.lists.specs.Lists.{any, find};
-ghost use Rattle.state.specs.Locks.{hasId, hasIdD};
-ghost use Rattle.lookups.specs.Reads.{onScope};
+ghost use Rattle.state.specs.Locks.{hasIdD};
 ghost use Rattle.operations.specs.Checks.{checkList, checkId, checkScope, checkParent, checkNesting, conflicts, checkClear, checkInsert, checkRevision, toldChild};
-ghost use Rattle.operations.specs.Code.{seen, misfit, flagged};
-
-// What a search among the active locks finds.
-pub(crate) enum Seen {
-    Nothing,
-    Lock(ActiveLock),
-}
+ghost use Rattle.operations.specs.Code.{misfit, flagged};
 
 // ---- 14
 pub(crate) fn check_list(list: &[u64]) -> Answer
@@ -66,49 +59,24 @@ pub(crate) fn check_id(
 }
 
 // ---- 2
-fn scope_held(l: [ActiveLock; 64], n: usize, scope: ScopeKey) -> bool
-    requires { ⌜ n ≤ 64 ⌝ }
-    ensures { λ r. ⌜ r ≡ any (onScope scope) (take n l) ⌝ }
-{
-    let mut i: usize = 0;
-    while i < n {
-        let a = l[i];
-        i += 1;
-        if lookups::on_scope(scope, a) {
-            return true;
-        }
-    }
-    false
-}
-
 pub(crate) fn check_scope(l: [ActiveLock; 64], n: usize, x: ActiveLock) -> Answer
     requires { ⌜ n ≤ 64 ⌝ }
     ensures { λ r. ⌜ r ≡ checkScope (take n l) x ⌝ }
 {
     let k = x.lock;
     let scope = k.scope;
-    if scope_held(l, n, scope) {
-        return Answer::DuplicateScope;
+    let mut i: usize = 0;
+    while i < n {
+        let a = l[i];
+        i += 1;
+        if lookups::on_scope(scope, a) {
+            return Answer::DuplicateScope;
+        }
     }
     Answer::Done
 }
 
 // ---- 4, 5, 11.3, 11.4
-fn find_active(l: [ActiveLock; 64], n: usize, id: LockId) -> Seen
-    requires { ⌜ n ≤ 64 ⌝ }
-    ensures { λ r. ⌜ r ≡ seen (find (hasId id) (take n l)) ⌝ }
-{
-    let mut i: usize = 0;
-    while i < n {
-        let a = l[i];
-        i += 1;
-        if state::has_id(id, a) {
-            return Seen::Lock(a);
-        }
-    }
-    Seen::Nothing
-}
-
 fn check_parent(x: ActiveLock, p: ActiveLock) -> Answer
     ensures { λ r. ⌜ r ≡ checkParent x p ⌝ }
 {
@@ -136,51 +104,42 @@ fn check_nesting(l: [ActiveLock; 64], n: usize, x: ActiveLock) -> Answer
         return Answer::Done;
     }
     let up = x.parent;
-    let f = find_active(l, n, up);
-    match f {
-        Seen::Lock(p) => check_parent(x, p),
-        Seen::Nothing => Answer::ParentNotFound(up),
+    let mut i: usize = 0;
+    while i < n {
+        let p = l[i];
+        i += 1;
+        if state::has_id(up, p) {
+            return check_parent(x, p);
+        }
     }
+    Answer::ParentNotFound(up)
 }
 
 // ---- 7
 fn in_conflict(x: ActiveLock, a: ActiveLock) -> bool
     ensures { λ r. ⌜ r ≡ conflicts x a ⌝ }
 {
-    let k = x.lock;
-    let s = k.scope;
+    let new = x.lock;
+    let s = new.scope;
     a.lock.coverage.overlaps(x.lock.coverage)
         & (a.lock.subject != x.lock.subject)
         & !state::is_vehicle(s)
-}
-
-fn find_conflict(l: [ActiveLock; 64], n: usize, x: ActiveLock) -> Seen
-    requires { ⌜ n ≤ 64 ⌝ }
-    ensures { λ r. ⌜ r ≡ seen (find (conflicts x) (take n l)) ⌝ }
-{
-    let mut i: usize = 0;
-    while i < n {
-        let a = l[i];
-        i += 1;
-        if in_conflict(x, a) {
-            return Seen::Lock(a);
-        }
-    }
-    Seen::Nothing
 }
 
 fn check_clear(l: [ActiveLock; 64], n: usize, x: ActiveLock) -> Answer
     requires { ⌜ n ≤ 64 ⌝ }
     ensures { λ r. ⌜ r ≡ checkClear (take n l) x ⌝ }
 {
-    let f = find_conflict(l, n, x);
-    match f {
-        Seen::Lock(a) => {
+    let mut i: usize = 0;
+    while i < n {
+        let a = l[i];
+        i += 1;
+        if in_conflict(x, a) {
             let id = a.lock.id;
-            Answer::CoverageConflict(id)
+            return Answer::CoverageConflict(id);
         }
-        Seen::Nothing => Answer::Done,
     }
+    Answer::Done
 }
 
 // 2, 4, 5, 11.3, 11.4, 7
@@ -216,9 +175,20 @@ fn is_misfit(x: ActiveLock, a: ActiveLock) -> bool
     (x.lock.subject != a.lock.subject) | !x.lock.coverage.contains(a.lock.coverage)
 }
 
-fn find_misfit(l: [ActiveLock; 64], n: usize, takes: [bool; 64], x: ActiveLock) -> Seen
+fn told_child(x: ActiveLock, a: ActiveLock) -> Answer
+    ensures { λ r. ⌜ r ≡ toldChild x (some a) ⌝ }
+{
+    let id = a.lock.id;
+    let up = x.lock.id;
+    if x.lock.subject == a.lock.subject {
+        return Answer::NotCovered(id, up);
+    }
+    Answer::OtherOwner(id, up)
+}
+
+pub(crate) fn check_taken(l: [ActiveLock; 64], n: usize, takes: [bool; 64], x: ActiveLock) -> Answer
     requires { ⌜ n ≤ 64 ⌝ }
-    ensures { λ r. ⌜ r ≡ seen (find (misfit x) (flagged (take n takes) (take n l))) ⌝ }
+    ensures { λ r. ⌜ r ≡ toldChild x (find (misfit x) (flagged (take n takes) (take n l))) ⌝ }
 {
     let mut i: usize = 0;
     while i < n {
@@ -226,26 +196,8 @@ fn find_misfit(l: [ActiveLock; 64], n: usize, takes: [bool; 64], x: ActiveLock) 
         let b = takes[i];
         i += 1;
         if b & is_misfit(x, a) {
-            return Seen::Lock(a);
+            return told_child(x, a);
         }
     }
-    Seen::Nothing
-}
-
-pub(crate) fn check_taken(l: [ActiveLock; 64], n: usize, takes: [bool; 64], x: ActiveLock) -> Answer
-    requires { ⌜ n ≤ 64 ⌝ }
-    ensures { λ r. ⌜ r ≡ toldChild x (find (misfit x) (flagged (take n takes) (take n l))) ⌝ }
-{
-    let up = x.lock.id;
-    let f = find_misfit(l, n, takes, x);
-    match f {
-        Seen::Lock(a) => {
-            let id = a.lock.id;
-            if x.lock.subject == a.lock.subject {
-                return Answer::NotCovered(id, up);
-            }
-            Answer::OtherOwner(id, up)
-        }
-        Seen::Nothing => Answer::Done,
-    }
+    Answer::Done
 }

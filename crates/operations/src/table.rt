@@ -5,13 +5,13 @@ use state::ActiveLock;
 use state::DefunctLock;
 ghost use mathlib.Core.List.{map};
 ghost use mathlib.Core.Path.{_≡_};
-ghost use Prim.Native.Nat.{_+_, _≤_, _<_};
+ghost use Prim.Native.Nat.{_≤_};
 ghost use lib.ListN.{take};
-ghost use Rattle.lists.specs.Lists.{any, insertBy};
+ghost use Rattle.lists.specs.Lists.{any};
 ghost use Rattle.lists.specs.Places.{inPlaces};
-ghost use Rattle.state.specs.Locks.{dkey, blankDefunct};
+ghost use Rattle.state.specs.Locks.{blankDefunct};
 ghost use Rattle.operations.specs.Table.{removeD, removeAll, superseded, supersede, toDefunct, enterAll};
-ghost use Rattle.operations.specs.Code.{flagged, unflagged, tookOver, handOn, entriesOf, tableOf, Laid, Ranked, placeOf, putAt};
+ghost use Rattle.operations.specs.Code.{flagged, unflagged, tookOver, handOn, entriesOf, tableOf, Laid, Ranked};
 
 // The entries in the first places, ascending by id; blanks after them.
 pub(crate) struct Table {
@@ -208,49 +208,7 @@ fn to_defunct(x: ActiveLock, by: u32, at: u64, a: ActiveLock) -> DefunctLock
     }
 }
 
-// Where an entry belongs: after each one that it does not come before.
-fn place_of(t: Table, id: LockId) -> usize
-    requires { ⌜ t .count ≤ 192 ⌝ }
-    ensures { λ r. ⌜ r ≡ placeOf dkey id (entriesOf t) ⌝ }
-{
-    let n = t.count;
-    let mut i: usize = 0;
-    while i < n {
-        let d = t.entries[i];
-        if ids::less(id, d.lock.id) {
-            return i;
-        }
-        i += 1;
-    }
-    n
-}
-
-// The entries from k on one place up, and d at k.
-fn open_at(mut t: Table, k: usize, d: DefunctLock) -> Table
-    requires { ⌜ (k ≤ t .count) × (t .count < 192) ⌝ }
-    ensures { λ r. ⌜ r ≡ putAt t k d ⌝ }
-{
-    let n = t.count;
-    let mut j = n;
-    while k < j {
-        let y = t.entries[j - 1];
-        t.entries[j] = y;
-        j -= 1;
-    }
-    t.entries[k] = d;
-    t.count = n + 1;
-    t
-}
-
-fn enter(t: Table, d: DefunctLock) -> Table
-    requires { ⌜ Laid t × (t .count < 192) ⌝ }
-    ensures { λ r. ⌜ r ≡ tableOf (insertBy dkey d (entriesOf t)) ⌝ }
-{
-    let k = place_of(t, d.lock.id);
-    open_at(t, k, d)
-}
-
-// The first n locks are entered as broken by x.
+// The first n locks are entered as broken by x, each at its place: after each entry that it does not come before.
 pub(crate) fn enter_all(
     t: Table,
     locks: [ActiveLock; 64],
@@ -267,8 +225,24 @@ pub(crate) fn enter_all(
     while i < n {
         let a = locks[i];
         i += 1;
+        let c = out.count;
+        let mut k: usize = 0;
+        while k < c {
+            let e = out.entries[k];
+            if ids::less(a.lock.id, e.lock.id) {
+                break;
+            }
+            k += 1;
+        }
+        let mut j = c;
+        while k < j {
+            let y = out.entries[j - 1];
+            out.entries[j] = y;
+            j -= 1;
+        }
         let d = to_defunct(x, by, at, a);
-        out = enter(out, d);
+        out.entries[k] = d;
+        out.count = c + 1;
     }
     out
 }

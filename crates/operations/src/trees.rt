@@ -2,13 +2,15 @@
 // SPDX-License-Identifier: Apache-2.0
 use ids::LockId;
 use state::ActiveLock;
+ghost use mathlib.Core.List.{map};
 ghost use mathlib.Core.Path.{_≡_};
 ghost use Prim.Native.Nat.{_≤_};
 ghost use lib.ListN.{take};
 ghost use Rattle.lists.specs.Lists.{any};
-ghost use Rattle.state.specs.Locks.{hasId};
-ghost use Rattle.operations.specs.Trees.{childOf, inTree, takeParts, treeParts, rootParts, rootsParts, startParts};
-ghost use Rattle.operations.specs.Code.{picks, Placed, Cut, partsOf, splitOf};
+ghost use Rattle.lists.specs.Places.{inPlaces};
+ghost use Rattle.state.specs.Locks.{hasId, blankActive};
+ghost use Rattle.operations.specs.Trees.{childOf, inTree, treeParts, rootsParts, startParts};
+ghost use Rattle.operations.specs.Code.{picks, Placed, splitOf, partsIn, lockAt, Low, Sorting, startHalves, takeHalves, treeHalves, rootHalves, picksAt, halvesOf, placesOf};
 
 // The active locks: those that stay, and those that went, in the order of their going.
 pub(crate) struct Split {
@@ -16,6 +18,14 @@ pub(crate) struct Split {
     pub kept: [ActiveLock; 64],
     pub gone: usize,
     pub removed: [ActiveLock; 64],
+}
+
+// The same as places in the list that came in, so that each lock is moved once, at the end.
+struct Places {
+    left: usize,
+    kept: [usize; 64],
+    gone: usize,
+    went: [usize; 64],
 }
 
 fn child_of(r: ActiveLock, a: ActiveLock) -> bool
@@ -42,73 +52,146 @@ fn picked(step: u8, r: ActiveLock, a: ActiveLock) -> bool
     }
 }
 
-// Whether one of the first n locks goes in this step.
-fn any_picked(l: [ActiveLock; 64], n: usize, step: u8, r: ActiveLock) -> bool
-    requires { ⌜ n ≤ 64 ⌝ }
-    ensures { λ x. ⌜ x ≡ any (picks step r) (take n l) ⌝ }
+// One step: the places that go are listed, and those that stay are written into a fresh list.
+fn take_out(s: Places, l: [ActiveLock; 64], step: u8, r: ActiveLock) -> Places
+    requires { ⌜ Sorting s ⌝ }
+    ensures { λ x. ⌜ x ≡ placesOf (takeHalves (picksAt step l r) (halvesOf s)) ⌝ }
 {
+    let n = s.left;
+    let mut kept = [0usize; 64];
+    let mut w: usize = 0;
+    let mut went = s.went;
+    let mut g = s.gone;
     let mut i: usize = 0;
     while i < n {
-        let a = l[i];
+        let j = s.kept[i];
         i += 1;
+        let a = l[j];
         if picked(step, r, a) {
+            went[g] = j;
+            g += 1;
+        } else {
+            kept[w] = j;
+            w += 1;
+        }
+    }
+    Places {
+        left: w,
+        kept: kept,
+        gone: g,
+        went: went,
+    }
+}
+
+// The tree of r goes: its children, then what a group covers, then r.
+fn cut_tree(s: Places, l: [ActiveLock; 64], r: ActiveLock) -> Places
+    requires { ⌜ Sorting s ⌝ }
+    ensures { λ x. ⌜ x ≡ placesOf (treeHalves l r (halvesOf s)) ⌝ }
+{
+    take_out(take_out(take_out(s, l, 0, r), l, 1, r), l, 2, r)
+}
+
+// Whether a lock that stays has the id.
+fn is_left(s: Places, l: [ActiveLock; 64], id: LockId) -> bool
+    requires { ⌜ Sorting s ⌝ }
+    ensures { λ r. ⌜ r ≡ any (hasId id) (map (lockAt l) (halvesOf s .kept)) ⌝ }
+{
+    let n = s.left;
+    let mut i: usize = 0;
+    while i < n {
+        let j = s.kept[i];
+        i += 1;
+        let a = l[j];
+        if state::has_id(id, a) {
             return true;
         }
     }
     false
 }
 
-// One step: those that go are listed, and those that stay are written into a fresh list.
-fn take_out(s: Split, step: u8, r: ActiveLock) -> Split
-    requires { ⌜ Cut s ⌝ }
-    ensures { λ x. ⌜ x ≡ splitOf (takeParts (picks step r) (partsOf s)) ⌝ }
+// A root that went with an earlier tree takes nothing with it.
+fn root_out(s: Places, l: [ActiveLock; 64], r: ActiveLock) -> Places
+    requires { ⌜ Sorting s ⌝ }
+    ensures { λ x. ⌜ x ≡ placesOf (rootHalves l r (halvesOf s)) ⌝ }
 {
-    let n = s.left;
-    let b = state::blank_active();
-    let mut kept = [b; 64];
-    let mut w: usize = 0;
-    let mut removed = s.removed;
-    let mut g = s.gone;
-    let mut i: usize = 0;
-    while i < n {
-        let a = s.kept[i];
-        i += 1;
-        if picked(step, r, a) {
-            removed[g] = a;
-            g += 1;
-        } else {
-            kept[w] = a;
-            w += 1;
-        }
-    }
-    Split {
-        left: w,
-        kept: kept,
-        gone: g,
-        removed: removed,
-    }
-}
-
-// Most steps take nothing, and then nothing is written.
-fn step_out(s: Split, step: u8, r: ActiveLock) -> Split
-    requires { ⌜ Cut s ⌝ }
-    ensures { λ x. ⌜ x ≡ splitOf (takeParts (picks step r) (partsOf s)) ⌝ }
-{
-    let l = s.kept;
-    if any_picked(l, s.left, step, r) {
-        return take_out(s, step, r);
+    if is_left(s, l, r.lock.id) {
+        return cut_tree(s, l, r);
     }
     s
 }
 
-// The tree of r goes: its children, then what a group covers, then r.
-fn cut_tree(s: Split, r: ActiveLock) -> Split
-    requires { ⌜ Cut s ⌝ }
-    ensures { λ x. ⌜ x ≡ splitOf (treeParts r (partsOf s)) ⌝ }
+fn all_places(n: usize) -> Places
+    requires { ⌜ n ≤ 64 ⌝ }
+    ensures { λ x. ⌜ x ≡ placesOf (startHalves n) ⌝ }
 {
-    let a = step_out(s, 0, r);
-    let b = step_out(a, 1, r);
-    take_out(b, 2, r)
+    let mut kept = [0usize; 64];
+    let mut i: usize = 0;
+    while i < n {
+        kept[i] = i;
+        i += 1;
+    }
+    Places {
+        left: n,
+        kept: kept,
+        gone: 0,
+        went: [0usize; 64],
+    }
+}
+
+// The locks at the first n of these places.
+fn gathered(l: [ActiveLock; 64], places: [usize; 64], n: usize) -> [ActiveLock; 64]
+    requires { ⌜ (n ≤ 64) × Low (take n places) ⌝ }
+    ensures { λ x. ⌜ x ≡ inPlaces 64 blankActive (map (lockAt l) (take n places)) ⌝ }
+{
+    let b = state::blank_active();
+    let mut out = [b; 64];
+    let mut i: usize = 0;
+    while i < n {
+        let j = places[i];
+        out[i] = l[j];
+        i += 1;
+    }
+    out
+}
+
+fn moved(s: Places, l: [ActiveLock; 64]) -> Split
+    requires { ⌜ Sorting s ⌝ }
+    ensures { λ x. ⌜ x ≡ splitOf (partsIn l (halvesOf s)) ⌝ }
+{
+    let k = s.kept;
+    let w = s.went;
+    Split {
+        left: s.left,
+        kept: gathered(l, k, s.left),
+        gone: s.gone,
+        removed: gathered(l, w, s.gone),
+    }
+}
+
+// The first n locks without the tree of r.
+pub(crate) fn tree_out(l: [ActiveLock; 64], n: usize, r: ActiveLock) -> Split
+    requires { ⌜ Placed l n ⌝ }
+    ensures { λ x. ⌜ x ≡ splitOf (treeParts r (startParts (take n l))) ⌝ }
+{
+    let s = cut_tree(all_places(n), l, r);
+    moved(s, l)
+}
+
+// The first n locks without the trees of the listed roots, ascending, each from what then remains.
+pub(crate) fn roots_out(l: [ActiveLock; 64], n: usize, list: &[u64]) -> Split
+    requires { ⌜ Placed l n ⌝ }
+    ensures { λ x. ⌜ x ≡ splitOf (rootsParts (now (list .entry)) (take n l)) ⌝ }
+{
+    let mut out = all_places(n);
+    let mut at: usize = 0;
+    while at < n {
+        let r = l[at];
+        at += 1;
+        if ids::listed(list, r.lock.id) {
+            out = root_out(out, l, r);
+        }
+    }
+    moved(out, l)
 }
 
 // Whether one of the first n locks has the id.
@@ -125,55 +208,4 @@ pub(crate) fn id_active(l: [ActiveLock; 64], n: usize, id: LockId) -> bool
         }
     }
     false
-}
-
-// A root that went with an earlier tree takes nothing with it.
-fn root_out(s: Split, r: ActiveLock) -> Split
-    requires { ⌜ Cut s ⌝ }
-    ensures { λ x. ⌜ x ≡ splitOf (rootParts r (partsOf s)) ⌝ }
-{
-    let l = s.kept;
-    if id_active(l, s.left, r.lock.id) {
-        return cut_tree(s, r);
-    }
-    s
-}
-
-fn nothing_out(l: [ActiveLock; 64], n: usize) -> Split
-    requires { ⌜ Placed l n ⌝ }
-    ensures { λ x. ⌜ x ≡ splitOf (startParts (take n l)) ⌝ }
-{
-    let b = state::blank_active();
-    Split {
-        left: n,
-        kept: l,
-        gone: 0,
-        removed: [b; 64],
-    }
-}
-
-// The first n locks without the tree of r.
-pub(crate) fn tree_out(l: [ActiveLock; 64], n: usize, r: ActiveLock) -> Split
-    requires { ⌜ Placed l n ⌝ }
-    ensures { λ x. ⌜ x ≡ splitOf (treeParts r (startParts (take n l))) ⌝ }
-{
-    let s = nothing_out(l, n);
-    cut_tree(s, r)
-}
-
-// The first n locks without the trees of the listed roots, ascending, each from what then remains.
-pub(crate) fn roots_out(l: [ActiveLock; 64], n: usize, list: &[u64]) -> Split
-    requires { ⌜ Placed l n ⌝ }
-    ensures { λ x. ⌜ x ≡ splitOf (rootsParts (now (list .entry)) (take n l)) ⌝ }
-{
-    let mut out = nothing_out(l, n);
-    let mut i: usize = 0;
-    while i < n {
-        let r = l[i];
-        i += 1;
-        if ids::listed(list, r.lock.id) {
-            out = root_out(out, r);
-        }
-    }
-    out
 }

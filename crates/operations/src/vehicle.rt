@@ -135,12 +135,10 @@ fn judged(s: LockState, takes: [bool; 64], list: &[u64], x: ActiveLock) -> Answe
         return f;
     }
     let g = checks::check_revision(s.revision);
-    if !answers::is_done(g) {
-        return g;
-    }
     let h = checks::check_taken(l, n, takes, x);
-    if !answers::is_done(h) {
-        return h;
+    let i = answers::and_then(g, h);
+    if !answers::is_done(i) {
+        return i;
     }
     insert::check_room(n)
 }

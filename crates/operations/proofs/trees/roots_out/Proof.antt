@@ -8,21 +8,22 @@ use lib.ListN.{length, getD, take, replicate}
 use lib.Seq.{slice}
 use Rattle.lists.proofs.Loops.{length-of-mapped}
 use Rattle.state.specs.Locks.{blankActive}
-use Rattle.operations.specs.Code.{Cut, splitOf}
-use Rattle.operations.proofs.Going.{placed-long, partsAt, out-cut, roots-more, roots-same, roots-end}
+use Rattle.operations.specs.Code.{placesOf}
+use Rattle.operations.proofs.Going.{placed-long, halvesAt, out-sorting, roots-more, roots-same, roots-end}
 use Rattle.operations.proofs.trees.roots_out.Statement.{statement}
 use Rattle.operations.proofs.trees.roots_out.Tie as tie
 use Rattle.operations.proofs.trees.roots_out.Reads as reads
 use Rattle.operations.proofs.trees.roots_out.Lts as lts
 use Rattle.ids.proofs.listed.Reads as listed-reads
-use Rattle.operations.proofs.trees.nothing_out.Reads as nothing-out-reads
+use Rattle.operations.proofs.trees.all_places.Reads as all-places-reads
+use Rattle.operations.proofs.trees.moved.Reads as moved-reads
 use Rattle.operations.proofs.trees.root_out.Reads as root-out-reads
 
 abbrev Inv-loop : tie.InvT-loop
-Inv-loop n list l out₀ i₀ out i = (i ≤ n) × (out ≡ splitOf (partsAt list l n i))
+Inv-loop n list l out₀ at₀ out at = (at ≤ n) × (out ≡ placesOf (halvesAt list l n at))
 
 abbrev μ-loop : tie.MeasureT-loop
-μ-loop n list l out₀ i₀ out i = n - i
+μ-loop n list l out₀ at₀ out at = n - at
 
 small : (c : tie.Start Inv-loop μ-loop) → c .args .n ≤ 64
 small c = c .pre .room
@@ -30,63 +31,68 @@ small c = c .pre .room
 long : (c : tie.Start Inv-loop μ-loop) → c .args .n ≤ length (c .args .t1)
 long c = placed-long (c .args .t1) (c .args .n) (c .pre)
 
--- src/trees.rt:162:9
-nothing-out-requires : tie.Need-nothing-out-requires Inv-loop μ-loop
-nothing-out-requires c κs = c .before .pre
+-- src/trees.rt:185:9
+all-places-requires : tie.Need-all-places-requires Inv-loop μ-loop
+all-places-requires c κs = c .before .pre .room
 
--- src/trees.rt:164:5
+-- src/trees.rt:187:5
 loop-holds : tie.Need-loop-holds Inv-loop μ-loop
-loop-holds c = (omega arith, c .nothing-out .ensures)
+loop-holds c = (omega arith, c .all-places .ensures)
 
--- src/trees.rt:165:17
+-- src/trees.rt:188:17
 mul-r : tie.Need-mul-r Inv-loop μ-loop
 mul-r c = omega (arith, small (c .before .before .before .before))
 
--- src/trees.rt:165:17
+-- src/trees.rt:188:17
 array-copy-out-r : tie.Need-array-copy-out-r Inv-loop μ-loop
 array-copy-out-r c = omega (arith, small (c .before .before .before .before))
 
--- src/trees.rt:166:9
-add-i : tie.Need-add-i Inv-loop μ-loop
-add-i c = omega arith
+-- src/trees.rt:189:9
+add-at : tie.Need-add-at Inv-loop μ-loop
+add-at c = omega arith
 
--- src/trees.rt:167:12
+-- src/trees.rt:190:12
 listed-requires : tie.Need-listed-requires Inv-loop μ-loop
 listed-requires c κs = tt
 
--- src/trees.rt:168:13
+-- src/trees.rt:191:13
 root-out-requires : tie.Need-root-out-requires Inv-loop μ-loop
-root-out-requires c κs = let o = c .before .before .before .before .before .before .before in out-cut (o .args .list .now) (o .args .t1) (o .args .n) (c .before .before .before .before .loop .i) (o .pre) _ (c .before .before .before .before .loop .inv .1)
+root-out-requires c κs = let o = c .before .before .before .before .before .before .before in out-sorting (o .args .list .now) (o .args .t1) (o .args .n) (c .before .before .before .before .loop .at) (o .pre) _ (c .before .before .before .before .loop .inv .1)
 
--- src/trees.rt:164:5
+-- src/trees.rt:187:5
 loop-less : tie.Need-loop-less Inv-loop μ-loop
 loop-less c = omega arith
 
--- src/trees.rt:164:5
+-- src/trees.rt:187:5
 loop-again : tie.Need-loop-again Inv-loop μ-loop
 unfolding blankActive
 loop-again c =
     let o = c .before .before .before .before .before .before .before .before in
     let l = c .before .before .before .before .before .loop in
-    (omega arith, roots-more (o .args .list .now) (o .args .t1) (o .args .n) (l .i) (o .pre) _ (l .inv .1) blankActive (omega (arith, long o)) _ (c .before .before .listed .ensures) _ (c .before .if1 .taken) (c .root-out .ensures))
+    (omega arith, roots-more (o .args .list .now) (o .args .t1) (o .args .n) (l .at) (o .pre) _ (l .inv .1) blankActive (omega (arith, long o)) _ (c .before .before .listed .ensures) _ (c .before .if1 .taken) (c .root-out .ensures))
 
--- src/trees.rt:164:5
+-- src/trees.rt:187:5
 loop-less-2 : tie.Need-loop-less-2 Inv-loop μ-loop
 loop-less-2 c = omega arith
 
--- src/trees.rt:164:5
+-- src/trees.rt:187:5
 loop-again-2 : tie.Need-loop-again-2 Inv-loop μ-loop
 unfolding blankActive
 loop-again-2 c =
     let o = c .before .before .before .before .before .before .before in
     let l = c .before .before .before .before .loop in
-    (omega arith, roots-same (o .args .list .now) (o .args .t1) (o .args .n) (l .i) (o .pre) _ (l .inv .1) blankActive (omega (arith, long o)) _ (c .before .listed .ensures) (c .if1 .left))
+    (omega arith, roots-same (o .args .list .now) (o .args .t1) (o .args .n) (l .at) (o .pre) _ (l .inv .1) blankActive (omega (arith, long o)) _ (c .before .listed .ensures) (c .if1 .left))
 
--- src/trees.rt:158:1
+-- src/trees.rt:194:5
+moved-requires : tie.Need-moved-requires Inv-loop μ-loop
+moved-requires c κs = let o = c .before .before .before .before in out-sorting (o .args .list .now) (o .args .t1) (o .args .n) (c .before .loop .at) (o .pre) _ (c .before .loop .inv .1)
+
+-- src/trees.rt:181:1
 returns : tie.Need-returns Inv-loop μ-loop
 returns c =
-    let o = c .before .before .before .before in
-    roots-end (o .args .list .now) (o .args .t1) (o .args .n) (c .before .loop .i) (o .pre) _ (c .before .loop .inv .1) (omega arith)
+    let o = c .before .before .before .before .before in
+    let l = c .before .before .loop in
+    roots-end (o .args .list .now) (o .args .t1) (o .args .n) (l .at) (o .pre) _ (l .inv .1) (omega arith) _ (c .moved .ensures)
 
 pub roots-out-spec : {M : Type 1} → statement M
 roots-out-spec =
@@ -94,15 +100,16 @@ roots-out-spec =
     (tie.spec
     Inv-loop
     μ-loop
-    nothing-out-requires
+    all-places-requires
     loop-holds
     mul-r
     array-copy-out-r
-    add-i
+    add-at
     listed-requires
     root-out-requires
     loop-less
     loop-again
     loop-less-2
     loop-again-2
+    moved-requires
     returns)

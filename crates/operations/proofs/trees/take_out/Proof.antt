@@ -12,62 +12,66 @@ use Rattle.lists.specs.Tests.{non}
 use Rattle.lists.specs.Lists.{filter}
 use Rattle.lists.specs.Places.{Holds}
 use Rattle.state.specs.Locks.{blankActive}
-use Rattle.operations.specs.Code.{picks, partsOf}
-use Rattle.operations.proofs.Going.{gone-yes, gone-no, kept-yes, kept-no, gone-start}
+use Rattle.operations.specs.Code.{picksAt, halvesOf}
+use Rattle.operations.proofs.Going.{gone-yes, gone-no, kept-yes, kept-no, gone-start, low-of}
 use Rattle.operations.proofs.trees.take_out.Statement.{statement}
 use Rattle.operations.proofs.trees.take_out.Tie as tie
 use Rattle.operations.proofs.trees.take_out.Reads as reads
 use Rattle.operations.proofs.trees.take_out.Lts as lts
 use Rattle.operations.proofs.trees.picked.Reads as picked-reads
-use Rattle.state.proofs.blank_active.Reads as blank-active-reads
 
 abbrev Inv-loop : tie.InvT-loop
-Inv-loop step r s n kept₀ w₀ removed₀ g₀ i₀ kept w removed g i = (i ≤ n) × (w + g ≡ i + s .gone) × Holds 64 blankActive (filter (λ a. non (picks step r a)) (take i (s .kept))) kept w × Holds 64 blankActive (partsOf s .gone ++ filter (picks step r) (take i (s .kept))) removed g
+Inv-loop step r s l n kept₀ w₀ went₀ g₀ i₀ kept w went g i = (i ≤ n) × (w + g ≡ i + s .gone) × Holds 64 0 (filter (λ j. non (picksAt step l r j)) (take i (s .kept))) kept w × Holds 64 0 (halvesOf s .gone ++ filter (picksAt step l r) (take i (s .kept))) went g
 
 abbrev μ-loop : tie.MeasureT-loop
-μ-loop step r s n kept₀ w₀ removed₀ g₀ i₀ kept w removed g i = n - i
+μ-loop step r s l n kept₀ w₀ went₀ g₀ i₀ kept w went g i = n - i
 
-long : (c : tie.Start Inv-loop μ-loop) → length (c .args .t1 .kept) ≡ 64
-long c = search (needs, length-of-mapped)
+many : (c : tie.Start Inv-loop μ-loop) → length (c .args .t1 .kept) ≡ 64
+many c = search (needs, length-of-mapped)
 
 small : (c : tie.Start Inv-loop μ-loop) → c .args .t1 .left + c .args .t1 .gone ≤ 64
 small c = c .pre .room
 
--- src/trees.rt:60:9
-blank-active-requires : tie.Need-blank-active-requires Inv-loop μ-loop
-blank-active-requires c κs = tt
+low : (c : tie.In-loop Inv-loop μ-loop) → getD (c .before .before .before .args .t1 .kept) (c .before .loop .i) 0 < 64
+low c = let o = c .before .before .before in low-of (o .args .t1 .kept) (o .args .t1 .left) (c .before .loop .i) (o .pre .stays) (c .loop-test .taken) (omega (arith, many o, small o))
 
 -- src/trees.rt:66:5
 loop-holds : tie.Need-loop-holds Inv-loop μ-loop
-loop-holds c =
-    let o = c .before .before in
-    (omega arith, omega arith, (ap (replicate 64) (c .before .blank-active .ensures), refl), gone-start (o .args .t1) (o .pre))
+loop-holds c = let o = c .before in (omega arith, omega arith, (refl, refl), gone-start (o .args .t1) (o .pre))
 
 -- src/trees.rt:67:17
-mul-a : tie.Need-mul-a Inv-loop μ-loop
-mul-a c = omega (arith, small (c .before .before .before .before))
+mul-j : tie.Need-mul-j Inv-loop μ-loop
+mul-j c = omega (arith, small (c .before .before .before))
 
 -- src/trees.rt:67:17
-element-copy-out-a : tie.Need-element-copy-out-a Inv-loop μ-loop
-element-copy-out-a c = omega (arith, small (c .before .before .before .before))
+element-copy-out-j : tie.Need-element-copy-out-j Inv-loop μ-loop
+element-copy-out-j c = omega (arith, small (c .before .before .before))
 
 -- src/trees.rt:68:9
 add-i : tie.Need-add-i Inv-loop μ-loop
 add-i c = omega arith
 
--- src/trees.rt:69:12
+-- src/trees.rt:69:17
+mul-a : tie.Need-mul-a Inv-loop μ-loop
+mul-a c = omega (arith, low (c .before))
+
+-- src/trees.rt:69:17
+array-copy-out-a : tie.Need-array-copy-out-a Inv-loop μ-loop
+array-copy-out-a c = omega (arith, low (c .before))
+
+-- src/trees.rt:70:12
 picked-requires : tie.Need-picked-requires Inv-loop μ-loop
 picked-requires c κs = tt
 
--- src/trees.rt:70:13
-mul-removed : tie.Need-mul-removed Inv-loop μ-loop
-mul-removed c = omega (arith, small (c .before .before .before .before .before .before .before))
-
--- src/trees.rt:70:13
-array-set-from-removed : tie.Need-array-set-from-removed Inv-loop μ-loop
-array-set-from-removed c = omega (arith, small (c .before .before .before .before .before .before .before))
+-- src/trees.rt:71:13
+mul-went : tie.Need-mul-went Inv-loop μ-loop
+mul-went c = omega (arith, small (c .before .before .before .before .before .before .before))
 
 -- src/trees.rt:71:13
+array-write-went : tie.Need-array-write-went Inv-loop μ-loop
+array-write-went c = omega (arith, small (c .before .before .before .before .before .before .before))
+
+-- src/trees.rt:72:13
 add-g : tie.Need-add-g Inv-loop μ-loop
 add-g c = omega (arith, small (c .before .before .before .before .before .before .before))
 
@@ -79,22 +83,21 @@ loop-less c = omega arith
 loop-again : tie.Need-loop-again Inv-loop μ-loop
 unfolding blankActive
 loop-again c =
-    let b = c .before .before .before in
-    let o = b .before .before .before .before in
-    let l = b .before .loop in
-    let p = picks (o .args .step) (o .args .r) in
-    let j : l .i < length (o .args .t1 .kept) = omega (arith, long o, small o) in
-    (omega arith, omega arith, kept-no p blankActive blankActive (o .args .t1 .kept) (partsOf (o .args .t1) .gone) (l .i) _ j (c .before .picked .ensures) (l .kept) (l .w) (l .inv .2) (c .if1 .taken), gone-yes p blankActive blankActive (o .args .t1 .kept) (partsOf (o .args .t1) .gone) (l .i) _ j (c .before .picked .ensures) (l .removed) (l .g) (l .inv .3) (omega (arith, small o)) (c .if1 .taken))
+    let o = c .before .before .before .before .before .before .before in
+    let l = c .before .before .before .before .before .loop in
+    let q = picksAt (o .args .step) (o .args .t2) (o .args .r) in
+    let j : l .i < length (o .args .t1 .kept) = omega (arith, many o, small o) in
+    (omega arith, omega arith, kept-no q 0 0 (o .args .t1 .kept) (halvesOf (o .args .t1) .gone) (l .i) _ j (c .before .picked .ensures) (l .kept) (l .w) (l .inv .2) (c .if1 .taken), gone-yes q 0 0 (o .args .t1 .kept) (halvesOf (o .args .t1) .gone) (l .i) _ j (c .before .picked .ensures) (l .went) (l .g) (l .inv .3) (omega (arith, small o)) (c .if1 .taken))
 
--- src/trees.rt:73:13
+-- src/trees.rt:74:13
 mul-kept : tie.Need-mul-kept Inv-loop μ-loop
 mul-kept c = omega (arith, small (c .before .before .before .before .before .before .before))
 
--- src/trees.rt:73:13
-array-set-from-kept : tie.Need-array-set-from-kept Inv-loop μ-loop
-array-set-from-kept c = omega (arith, small (c .before .before .before .before .before .before .before))
-
 -- src/trees.rt:74:13
+array-write-kept : tie.Need-array-write-kept Inv-loop μ-loop
+array-write-kept c = omega (arith, small (c .before .before .before .before .before .before .before))
+
+-- src/trees.rt:75:13
 add-w : tie.Need-add-w Inv-loop μ-loop
 add-w c = omega (arith, small (c .before .before .before .before .before .before .before))
 
@@ -106,22 +109,21 @@ loop-less-2 c = omega arith
 loop-again-2 : tie.Need-loop-again-2 Inv-loop μ-loop
 unfolding blankActive
 loop-again-2 c =
-    let b = c .before .before .before in
-    let o = b .before .before .before .before in
-    let l = b .before .loop in
-    let p = picks (o .args .step) (o .args .r) in
-    let j : l .i < length (o .args .t1 .kept) = omega (arith, long o, small o) in
-    (omega arith, omega arith, kept-yes p blankActive blankActive (o .args .t1 .kept) (partsOf (o .args .t1) .gone) (l .i) _ j (c .before .picked .ensures) (l .kept) (l .w) (l .inv .2) (omega (arith, small o)) (c .if1 .left), gone-no p blankActive blankActive (o .args .t1 .kept) (partsOf (o .args .t1) .gone) (l .i) _ j (c .before .picked .ensures) (l .removed) (l .g) (l .inv .3) (c .if1 .left))
+    let o = c .before .before .before .before .before .before .before in
+    let l = c .before .before .before .before .before .loop in
+    let q = picksAt (o .args .step) (o .args .t2) (o .args .r) in
+    let j : l .i < length (o .args .t1 .kept) = omega (arith, many o, small o) in
+    (omega arith, omega arith, kept-yes q 0 0 (o .args .t1 .kept) (halvesOf (o .args .t1) .gone) (l .i) _ j (c .before .picked .ensures) (l .kept) (l .w) (l .inv .2) (omega (arith, small o)) (c .if1 .left), gone-no q 0 0 (o .args .t1 .kept) (halvesOf (o .args .t1) .gone) (l .i) _ j (c .before .picked .ensures) (l .went) (l .g) (l .inv .3) (c .if1 .left))
 
--- src/trees.rt:55:1
+-- src/trees.rt:56:1
 returns : tie.Need-returns Inv-loop μ-loop
 returns c =
-    let o = c .before .before .before .before in
+    let o = c .before .before .before in
     let l = c .before .loop in
     let e : l .i ≡ o .args .t1 .left = omega arith in
     let k = rw e at (l .inv .2) in
     let g = rw e at (l .inv .3) in
-    λ j. record { left = k .1 j; kept = k .0 j; gone = g .1 j; removed = g .0 j }
+    λ j. record { left = k .1 j; kept = k .0 j; gone = g .1 j; went = g .0 j }
 
 pub take-out-spec : {M : Type 1} → statement M
 take-out-spec =
@@ -129,19 +131,20 @@ take-out-spec =
     (tie.spec
     Inv-loop
     μ-loop
-    blank-active-requires
     loop-holds
-    mul-a
-    element-copy-out-a
+    mul-j
+    element-copy-out-j
     add-i
+    mul-a
+    array-copy-out-a
     picked-requires
-    mul-removed
-    array-set-from-removed
+    mul-went
+    array-write-went
     add-g
     loop-less
     loop-again
     mul-kept
-    array-set-from-kept
+    array-write-kept
     add-w
     loop-less-2
     loop-again-2
