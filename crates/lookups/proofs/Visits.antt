@@ -27,19 +27,21 @@ use Rattle.state.specs.Locks.{dkey, blankDefunct}
 use Rattle.state.specs.Model.{modelOf}
 use Rattle.rules.specs.declared.Verdict.the-variants.{Sound}
 use Rattle.rules.specs.Rules.{findA, findD, brokenRule}
-use Rattle.rules.specs.Places.{keyAt, Sought}
-use Rattle.rules.proofs.Rings.{table-key}
+use Rattle.rules.specs.Places.{Sought}
 use Rattle.rules.proofs.Ends.{Ends, ends-anywhere}
 use Rattle.rules.proofs.Sound.{facts-of-state}
 use Rattle.lookups.specs.Reads.{held, walk}
-use Rattle.lookups.specs.Code.{Columns}
+use Rattle.lookups.specs.Code.{Columns, idAt, keyAt}
 use Rattle.lookups.proofs.Verdicts.{defuncts-fit}
 use Rattle.lookups.proofs.Walk.{walk-held, walk-out, walk-on, ahead, ahead-le, ahead-on, enough}
 
 -- ---- the place of an id, and what is found by the id
 module _ {A : Type 0} (f : A → LockId) (b : A) (l : List A) (n : ℕ) (hi lo : List ℕ) (w : Columns f b l n hi lo) (g : n ≤ length l) (k r : ℕ) where
+  id-at : (j : ℕ) → j < n → idAt hi lo j ≡ f (getD l j b)
+  id-at j h = λ i. record { hi = w .his j h i; lo = w .los j h i }
+
   at-place : (j : ℕ) → j < n → keyAt hi lo j ≡ key (f (getD (take n l) j b))
-  at-place j h = table-key f l n b hi lo g (w .his) (w .los) j h ∙ ap (λ (x : A). key (f x)) (sym (getD-take n l j b h))
+  at-place j h = ap key (id-at j h) ∙ ap (λ (x : A). key (f x)) (sym (getD-take n l j b h))
 
   pub found-at : Sought (keyAt hi lo) n k r → Yes (ascending (λ x. key (f x)) (take n l)) → r < n → find (λ x. eqb (key (f x)) k) (take n l) ≡ some (getD l r b)
   found-at (inl z) o h =

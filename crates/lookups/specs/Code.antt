@@ -9,6 +9,7 @@ use Rattle.lists.specs.Lists.{any, Mem}
 use Rattle.state.specs.declared.ScopeKey.{ScopeKey}
 use Rattle.state.specs.declared.ScopeKey.the-variants.{Ecu, FunctionalGroup}
 use Rattle.ids.specs.declared.LockId.{LockId}
+use Rattle.ids.specs.Order.{key}
 use Rattle.state.specs.declared.ActiveLock.{ActiveLock}
 use Rattle.state.specs.declared.DefunctLock.{DefunctLock}
 use Rattle.lookups.specs.declared.TesterPresent.{TesterPresent}
@@ -44,6 +45,13 @@ pub record Columns {A : Type 0} (f : A → LockId) (b : A) (l : List A) (n : ℕ
   pub wide : length lo ≡ 128
   pub his : (j : ℕ) → j < n → getD hi j 0 ≡ f (getD l j b) .hi
   pub los : (j : ℕ) → j < n → getD lo j 0 ≡ f (getD l j b) .lo
+
+-- the id whose halves stand at place i of two columns, and its key
+abbrev pub idAt : List ℕ → List ℕ → ℕ → LockId
+idAt hi lo i = record { hi = getD hi i 0; lo = getD lo i 0 }
+
+abbrev pub keyAt : List ℕ → List ℕ → ℕ → ℕ
+keyAt hi lo i = key (idAt hi lo i)
 
 abbrev pub toldHeld : Held → Holder
 toldHeld h = holder.Held (h .subject) (h .links)

@@ -13,9 +13,9 @@ ghost use Rattle.state.specs.Locks.{blankActive, blankDefunct};
 ghost use Rattle.state.specs.Model.{modelOf};
 ghost use Rattle.rules.specs.declared.Verdict.the-variants.{Sound};
 ghost use Rattle.rules.specs.Rules.{brokenRule};
-ghost use Rattle.rules.specs.Places.{keyAt, Sought};
+ghost use Rattle.rules.specs.Places.{Sought};
 ghost use Rattle.lookups.specs.Reads.{holderOf};
-ghost use Rattle.lookups.specs.Code.{Columns, activeId, defunctId, toldHeld};
+ghost use Rattle.lookups.specs.Code.{Columns, keyAt, activeId, defunctId, toldHeld};
 
 // The ids of a list by their halves: a search reads numbers and copies no lock.
 struct Ids {

@@ -1,10 +1,12 @@
 -- Laws of the rules that other crates cite (Ends, Sound), and those that the code's proofs do.
 pub mod Search
 pub mod Steps
-pub mod Ends
-pub mod Rings
-pub mod Two
+pub mod Scans
+pub mod Clash
 pub mod Family
+pub mod Fill
+pub mod Rings
+pub mod Ends
 pub mod Lowest
 pub mod Tidy
 pub mod Sound

@@ -1,4 +1,5 @@
--- Rule 9 by the places of a table: the walk by ids is the walk from place to place. Assumes nothing.
+-- Rules 1 and 9 by columns. Rule 9 by the places of the entries: the walk by ids is the walk from place to place.
+-- Assumes nothing.
 use mathlib.Core.Path.{_≡_, refl, sym, ap, _∙_, subst}
 use mathlib.Core.Bool.{Bool, true, false}
 use mathlib.Core.List.{List}
@@ -6,25 +7,44 @@ use mathlib.Core.Option.{none}
 use mathlib.Core.Logic.{_⊎_, inl, inr}
 use Prim.Native.Nat.{ℕ, zero, suc, _≤_, _<_}
 use native.Mathlib.Omega.{arith}
-use lib.ListN.{length, getD, take}
-use lib.Seq.{getD-take, length-take-le}
+use lib.ListN.{length, getD}
 use lib.Dec.{eqb, leb}
 use borrow.Author.Tests.{eq-eqb, eqb-true, lt-leb, le-leb}
 use Rattle.lists.specs.Tests.{non, Yes, No}
+use Rattle.lists.specs.Lists.{all, any, Mem, ascending}
+use Rattle.lists.specs.Below.{allBelow, anyBelow}
 use Rattle.lists.proofs.Tests.{→no, same-test}
-use Rattle.lists.specs.Lists.{all, Mem, ascending}
 use Rattle.lists.proofs.Lists.{all→, →all, any→, →any, find-none→, find-miss, find-key}
-use Rattle.lists.proofs.Below.{all-of, all-at}
-use Rattle.lists.proofs.Places.{mem-at, at-mem, ascending-at}
-use Rattle.ids.specs.declared.LockId.{LockId}
+use Rattle.lists.proofs.Below.{all-of, all-at, all-same, any-same}
+use Rattle.lists.proofs.Places.{mem-at, at-mem, all-below}
 use Rattle.ids.specs.Order.{key}
 use Rattle.state.specs.declared.DefunctLock.{DefunctLock}
-use Rattle.state.specs.Locks.{dkey}
-use Rattle.rules.specs.Rules.{findD, hasD}
-use Rattle.rules.specs.Places.{Sought, Sorted, keyAt, jump, times, allOut, LeadsOut}
+use Rattle.state.specs.Locks.{akey, dkey, blankActive, blankDefunct}
+use Rattle.state.specs.Model.{Model}
+use Rattle.rules.specs.Rules.{findD, hasD, rule1, rule9}
+use Rattle.rules.specs.Places.{keyAt, Sought, has, jump, times, allOut, LeadsOut}
+use Rattle.rules.specs.Code.{Columns, Entries}
 use Rattle.rules.proofs.Steps.{jump-in, jump-out, times-out}
-use Rattle.rules.proofs.Ends.{leaves, leaves→ends, leaves-all, leaves-far}
+use Rattle.rules.proofs.Family.{any-below}
+use Rattle.rules.proofs.Ends.{leaves, leaves→ends, leaves-all, leaves-far, rule9-leaves}
 
+-- ---- rule 1
+pub one-law : (m : Model) (n k : ℕ) (ids parents words : List ℕ) (whole child : List Bool) (scopes subjects gone targets : List ℕ)
+    → Columns (m .active) n ids parents words whole child scopes subjects → Entries (m .defunct) k gone targets
+    → rule1 m ≡ allBelow n (λ i. non (has (keyAt gone) k (keyAt ids i)))
+unfolding rule1
+one-law m n k ids parents words whole child scopes subjects gone targets c e =
+    all-below (λ a. non (hasD (m .defunct) (akey a))) (m .active) blankActive
+    ∙ ap (λ (j : ℕ). allBelow j (λ i. non (hasD (m .defunct) (akey (getD (m .active) i blankActive))))) (c .long)
+    ∙ all-same n (λ i. non (hasD (m .defunct) (akey (getD (m .active) i blankActive)))) (λ i. non (has (keyAt gone) k (keyAt ids i))) (λ i h. ap non (same i h))
+  where
+    same : (i : ℕ) → i < n → hasD (m .defunct) (akey (getD (m .active) i blankActive)) ≡ has (keyAt gone) k (keyAt ids i)
+    same i h =
+        any-below (λ d. eqb (dkey d) (akey (getD (m .active) i blankActive))) (m .defunct) blankDefunct
+        ∙ ap (λ (j : ℕ). anyBelow j (λ x. eqb (dkey (getD (m .defunct) x blankDefunct)) (akey (getD (m .active) i blankActive)))) (e .long)
+        ∙ any-same k (λ x. eqb (dkey (getD (m .defunct) x blankDefunct)) (akey (getD (m .active) i blankActive))) (λ x. eqb (keyAt gone x) (keyAt ids i)) (λ x g. rw (e .at-gone x g, c .at-id i h))
+
+-- ---- rule 9
 hasD-yes : (t : List DefunctLock) (k : ℕ) {d : DefunctLock} → Mem d t → dkey d ≡ k → Yes (hasD t k)
 hasD-yes t k {d} m e = →any (λ d. eqb (dkey d) k) m (eq-eqb (dkey d) k e)
 
@@ -59,35 +79,19 @@ module _ (t : List DefunctLock) (b : DefunctLock) (l : List ℕ) where
         subst (λ (x : DefunctLock). Yes (leaves (length t) t (dkey x))) (w .2)
         (leaves-all t (leaves→ends m t (at (w .0)) (by-places m (at (w .0)) (w .0) (inl (w .1, refl)) ∙ all-at (length t) (λ i. leb (length t) (times m (jump l (length t)) i)) u (w .0) (w .1))))))
 
--- ---- the table of ids and the table of steps, as the code fills them from an array's first n places
-pub sought-same : (f g : ℕ → ℕ) (n k r : ℕ) → ((i : ℕ) → i < n → f i ≡ g i) → Sought f n k r → Sought g n k r
+sought-same : (f g : ℕ → ℕ) (n k r : ℕ) → ((i : ℕ) → i < n → f i ≡ g i) → Sought f n k r → Sought g n k r
 sought-same f g n k r e (inl w) = inl (w .0, sym (e r (w .0)) ∙ w .1)
 sought-same f g n k r e (inr w) = inr (w .0, λ i h q. w .1 i h (e i h ∙ q))
 
-module _ {A : Type 0} (f : A → LockId) (l : List A) (n : ℕ) (b : A) (hi lo : List ℕ) (h : n ≤ length l)
-    (p : (j : ℕ) → j < n → getD hi j 0 ≡ f (getD l j b) .hi) (q : (j : ℕ) → j < n → getD lo j 0 ≡ f (getD l j b) .lo) where
-  pub table-key : (j : ℕ) → j < n → keyAt hi lo j ≡ key (f (getD l j b))
-  unfolding key
-  table-key j g = rw (p j g, q j g)
-
-  pub table-sorted : ascending (λ x. key (f x)) (take n l) ≡ true → Sorted (keyAt hi lo) n
-  table-sorted s i j u v = rw (table-key i (omega arith), table-key j v, ← (getD-take n l i b (omega arith)), ← (getD-take n l j b v))
-      (ascending-at (λ x. key (f x)) 0 (take n l) b s i j u (omega (arith, length-take-le n l h)))
-
-module _ (l : List DefunctLock) (n : ℕ) (b : DefunctLock) (hi lo next : List ℕ) (h : n ≤ length l)
-    (p : (j : ℕ) → j < n → getD hi j 0 ≡ getD l j b .lock .id .hi) (q : (j : ℕ) → j < n → getD lo j 0 ≡ getD l j b .lock .id .lo)
-    (s : ascending dkey (take n l) ≡ true)
-    (g : (j : ℕ) → j < n → Sought (keyAt hi lo) n (key (getD l j b .target)) (getD next j 0)) where
-  pub ring-law : (r : Bool) → LeadsOut next n r → r ≡ all (λ d. leaves (length (take n l)) (take n l) (dkey d)) (take n l)
-  ring-law r w =
-      w .says ∙ ap (allOut (w .reach) next) (sym e)
-      ∙ sym (rule9-places (take n l) b next s (λ i k. go i (subst (λ (m : ℕ). i < m) e k)) (w .reach) (omega (arith, e, w .far)))
-    where
-      e : length (take n l) ≡ n
-      e = length-take-le n l h
-
-      same : (i : ℕ) → i < n → keyAt hi lo i ≡ dkey (getD (take n l) i b)
-      same i k = table-key (λ (x : DefunctLock). x .lock .id) l n b hi lo h p q i k ∙ ap dkey (sym (getD-take n l i b k))
-
-      go : (i : ℕ) → i < n → Sought (λ j. dkey (getD (take n l) j b)) (length (take n l)) (key (getD (take n l) i b .target)) (getD next i 0)
-      go i k = rw (e, getD-take n l i b k) (sought-same (keyAt hi lo) (λ j. dkey (getD (take n l) j b)) n (key (getD l i b .target)) (getD next i 0) same (g i k))
+-- where the table of steps says of each entry the place that its target has
+pub ring-law : (m : Model) (n : ℕ) (gone targets next : List ℕ) → Entries (m .defunct) n gone targets → ascending dkey (m .defunct) ≡ true
+    → ((i : ℕ) → i < n → Sought (keyAt gone) n (keyAt targets i) (getD next i 0)) → (r : Bool) → LeadsOut next n r → r ≡ rule9 m
+ring-law m n gone targets next c s g r w =
+    w .says ∙ ap (allOut (w .reach) next) (sym (c .long))
+    ∙ sym (rule9-places (m .defunct) blankDefunct next s go (w .reach) (omega (arith, c .long, w .far)))
+    ∙ sym (rule9-leaves m)
+  where
+    go : (i : ℕ) → i < length (m .defunct) → Sought (λ j. dkey (getD (m .defunct) j blankDefunct)) (length (m .defunct)) (key (getD (m .defunct) i blankDefunct .target)) (getD next i 0)
+    go i k =
+        let l : i < n = omega (arith, c .long) in
+        rw (c .long, ← (c .at-target i l)) (sought-same (keyAt gone) (λ j. dkey (getD (m .defunct) j blankDefunct)) n (keyAt targets i) (getD next i 0) (λ j h. ap key (c .at-gone j h)) (g i l))

@@ -7,9 +7,10 @@ use Prim.Native.Nat.{ℕ, zero, suc, _+_, _≤_, _<_}
 use native.Mathlib.Omega.{arith}
 use lib.Dec.{eqb, ltb, leb}
 use lib.ListN.{length, getD}
-use borrow.Author.Tests.{ltb-true, ltb-false, lt-ltb, le-ltb, lt-leb, le-leb}
-use Rattle.lists.proofs.Below.{all-of, all-no}
-use Rattle.rules.specs.Places.{jump, times, allOut}
+use borrow.Author.Tests.{ltb-true, ltb-false, leb-true, lt-ltb, le-ltb}
+use Rattle.lists.specs.Below.{allBelow}
+use Rattle.lists.proofs.Below.{all-of, all-at, all-same}
+use Rattle.rules.specs.Places.{jump, times, allOut, LeadsOut}
 
 pub jump-in : (l : List ℕ) (n i : ℕ) → i < n → jump l n i ≡ getD l i 0
 unfolding jump
@@ -58,9 +59,20 @@ unfolding times
 once s n i = refl
 
 -- where t has m steps of s, its places say whether m steps lead out
-module _ (s t : List ℕ) (n m : ℕ) (f : (i : ℕ) → jump t n i ≡ times m (jump s n) i) where
-  pub out-no : (i : ℕ) → i < n → getD t i 0 < n → allOut m s n ≡ false
-  out-no i h g = all-no n (λ i. leb n (times m (jump s n) i)) i h (rw (← f i, jump-in t n i h) (lt-leb n (getD t i 0) g))
+pub out-says : (s t : List ℕ) (n m : ℕ) → ((i : ℕ) → jump t n i ≡ times m (jump s n) i) → allBelow n (λ i. leb n (getD t i 0)) ≡ allOut m s n
+out-says s t n m f = all-same n (λ i. leb n (getD t i 0)) (λ i. leb n (times m (jump s n) i)) (λ i h. ap (leb n) (sym (jump-in t n i h) ∙ f i))
 
-  pub out-yes : ((i : ℕ) → i < n → n ≤ getD t i 0) → allOut m s n ≡ true
-  out-yes g = all-of n (λ i. leb n (times m (jump s n) i)) (λ i h. rw (← f i, jump-in t n i h) (le-leb n (getD t i 0) (g i h)))
+-- what is out after m steps is out after more
+pub out-more : (s : List ℕ) (n m k : ℕ) → allOut m s n ≡ true → allOut (m + k) s n ≡ true
+out-more s n m k t = all-of n (λ i. leb n (times (m + k) (jump s n) i)) (λ i h.
+    let o : leb n (times m (jump s n) i) ≡ true = all-at n (λ i. leb n (times m (jump s n) i)) t i h in
+    ap (leb n) (times-add m k (jump s n) i ∙ times-out k s n (times m (jump s n) i) (leb-true n (times m (jump s n) i) o)) ∙ o)
+
+module _ (s : List ℕ) (n m : ℕ) (r : Bool) (e : r ≡ allOut m s n) where
+  -- the answer after m steps stands where they reach past n
+  pub says-far : n ≤ m → LeadsOut s n r
+  says-far h = record { reach = m; far = h; says = e }
+
+  -- and where all are out already
+  pub says-out : r ≡ true → LeadsOut s n true
+  says-out t = record { reach = m + n; far = omega arith; says = sym (out-more s n m n (sym e ∙ t)) }

@@ -3,10 +3,10 @@ use mathlib.Core.Logic.{inl, inr}
 use Prim.Native.Nat.{ℕ, _≤_, _<_, _-_}
 use native.Mathlib.Omega.{arith}
 use borrow.Author.Count.{below-more}
-use lib.ListN.{getD}
 use Rattle.ids.specs.Order.{key}
-use Rattle.rules.specs.Places.{keyAt}
-use Rattle.rules.proofs.Search.{halves-same, halves-other}
+use Rattle.ids.proofs.Laws.{same-words}
+use Rattle.rules.proofs.Search.{is-same, not-same}
+use Rattle.lookups.specs.Code.{idAt, keyAt}
 use Rattle.lookups.proofs.chain.place.Statement.{statement}
 use Rattle.lookups.proofs.chain.place.Tie as tie
 use Rattle.lookups.proofs.chain.place.Reads as reads
@@ -34,8 +34,12 @@ shared-slice-read-if1-2 : tie.Need-shared-slice-read-if1-2 Inv-loop μ-loop
 shared-slice-read-if1-2 c = omega arith
 
 returns : tie.Need-returns Inv-loop μ-loop
-unfolding key
-returns c = inl (c .before .before .before .before .before .loop-test .taken, halves-same _ _ _ _ (c .if1 .taken))
+returns c =
+    let o = c .before .before .before .before .before .before in
+    let p = o .before .args in
+    let i = o .loop .i in
+    let a = idAt (p .hi .now) (p .lo .now) i in
+    inl (c .before .before .before .before .before .loop-test .taken, is-same _ a (p .id) a (p .id) refl refl (same-words a (p .id) (omega (arith, c .before .before .shared-slice-known2 .given i)) (omega arith)) (c .if1 .taken))
 
 add-i : tie.Need-add-i Inv-loop μ-loop
 add-i c = omega arith
@@ -44,13 +48,14 @@ loop-less : tie.Need-loop-less Inv-loop μ-loop
 loop-less c = omega arith
 
 loop-again : tie.Need-loop-again Inv-loop μ-loop
-unfolding key
 loop-again c =
     let k = c .before .before in
     let o = c .before .before .before .before .before .before in
     let p = o .before .args in
     let i = o .loop .i in
-    (omega arith, below-more (λ j. keyAt (p .hi .now) (p .lo .now) j ≡ key (p .id) → ⊥) i (o .loop .inv .1) (halves-other (getD (p .hi .now) i 0) (getD (p .lo .now) i 0) (p .id .hi) (p .id .lo) (omega (arith, k .shared-slice-known2 .given i)) (omega arith) (c .if1 .left)))
+    let a = idAt (p .hi .now) (p .lo .now) i in
+    let e = same-words a (p .id) (omega (arith, k .shared-slice-known2 .given i)) (omega arith) in
+    (omega arith, below-more (λ j. keyAt (p .hi .now) (p .lo .now) j ≡ key (p .id) → ⊥) i (o .loop .inv .1) (not-same _ a (p .id) a (p .id) refl refl e (c .if1 .left)))
 
 returns-2 : tie.Need-returns-2 Inv-loop μ-loop
 returns-2 c = inr (refl, λ j h. c .before .loop .inv .1 j (omega arith))

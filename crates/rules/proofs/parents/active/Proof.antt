@@ -1,0 +1,91 @@
+use mathlib.Core.Path.{_≡_, refl, sym, ap, _∙_}
+use mathlib.Core.Bool.{Bool, true, false, _&&_}
+use Prim.Native.Nat.{ℕ, _+_, _-_, _*_, _≤_, _<_}
+use native.Mathlib.Omega.{arith}
+use borrow.Author.Needs.{needs}
+use borrow.Author.Count.{below-more}
+use lib.Dec.{eqb, ltb}
+use lib.ListN.{length, getD}
+use Rattle.lists.specs.Tests.{_and_, _imp_, non}
+use Rattle.lists.specs.Below.{allBelow}
+use Rattle.lists.proofs.Below.{all-of, all-no}
+use Rattle.rules.specs.Places.{keyAt, has}
+use Rattle.rules.proofs.Scans.{on, off}
+use Rattle.rules.proofs.Search.{has-id}
+use mathlib.Core.List.{List}
+use Rattle.rules.proofs.parents.active.Statement.{statement}
+use Rattle.rules.proofs.parents.active.Tie as tie
+use Rattle.rules.proofs.parents.active.Reads as reads
+use Rattle.rules.proofs.parents.active.Lts as lts
+use Rattle.rules.proofs.places.id_at.Reads as id-at-reads
+use Rattle.rules.proofs.places.place.Reads as place-reads
+
+abbrev test : List ℕ → List ℕ → List Bool → ℕ → ℕ → Bool
+test list parents child n i = getD child i false imp has (keyAt list) n (keyAt parents i)
+
+abbrev Inv-loop : tie.InvT-loop
+Inv-loop list parents child n i₀ i = (i ≤ n) × ((k : ℕ) → k < i → test list parents child n k ≡ true)
+
+abbrev μ-loop : tie.MeasureT-loop
+μ-loop list parents child n i₀ i = n - i
+
+-- src/parents.rt:41:5
+loop-holds : tie.Need-loop-holds Inv-loop μ-loop
+loop-holds c = (omega arith, λ j h. absurd (omega arith))
+
+-- src/parents.rt:42:13
+id-at-requires : tie.Need-id-at-requires Inv-loop μ-loop
+id-at-requires c κs = omega arith
+
+-- src/parents.rt:43:17
+shared-slice-read-c : tie.Need-shared-slice-read-c Inv-loop μ-loop
+shared-slice-read-c c = omega arith
+
+-- src/parents.rt:44:18
+place-requires : tie.Need-place-requires Inv-loop μ-loop
+place-requires c κs = search needs
+
+-- src/parents.rt:45:13
+returns : tie.Need-returns Inv-loop μ-loop
+returns c =
+    let o = c .before .before .before .before .before in
+    let p = o .before .before .before .before .args in
+    sym (all-no (p .n) (test (p .list .now) (p .parents .now) (p .child .now) (p .n)) (o .loop .i) (c .before .before .before .before .loop-test .taken) (off _ _ _ (has-id (keyAt (p .list .now)) (p .n) _ _ _ (c .before .place .ensures) (c .before .before .before .id-at .ensures)) (c .if1 .taken)))
+
+-- src/parents.rt:47:9
+add-i : tie.Need-add-i Inv-loop μ-loop
+add-i c = omega arith
+
+-- src/parents.rt:41:5
+loop-less : tie.Need-loop-less Inv-loop μ-loop
+loop-less c = omega arith
+
+-- src/parents.rt:41:5
+loop-again : tie.Need-loop-again Inv-loop μ-loop
+loop-again c =
+    let o = c .before .before .before .before .before in
+    let p = o .before .before .before .before .args in
+    (omega arith, below-more (λ k. test (p .list .now) (p .parents .now) (p .child .now) (p .n) k ≡ true) (o .loop .i) (o .loop .inv .1) (on _ _ _ (has-id (keyAt (p .list .now)) (p .n) _ _ _ (c .before .place .ensures) (c .before .before .before .id-at .ensures)) (c .if1 .left)))
+
+-- src/parents.rt:36:1
+returns-2 : tie.Need-returns-2 Inv-loop μ-loop
+returns-2 c =
+    let o = c .before in
+    let p = o .before .before .before .before .args in
+    sym (all-of (p .n) (test (p .list .now) (p .parents .now) (p .child .now) (p .n)) (λ k h. o .loop .inv .1 k (omega arith)))
+
+pub active-spec : {M : Type 1} → statement M
+active-spec =
+    tie.close
+    (tie.spec
+    Inv-loop
+    μ-loop
+    loop-holds
+    id-at-requires
+    shared-slice-read-c
+    place-requires
+    returns
+    add-i
+    loop-less
+    loop-again
+    returns-2)

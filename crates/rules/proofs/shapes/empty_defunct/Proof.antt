@@ -1,0 +1,28 @@
+use mathlib.Core.Path.{_≡_, refl, sym, ap, _∙_}
+use native.Mathlib.Omega.{arith}
+use Rattle.lists.proofs.Tests.{codes}
+use Rattle.lists.specs.Tests.{_and_, _or_, _imp_, non}
+use Rattle.rules.specs.Rules.{isBlankD}
+use borrow.Author.Needs.{needs}
+use Rattle.rules.proofs.shapes.empty_defunct.Statement.{statement}
+use Rattle.rules.proofs.shapes.empty_defunct.Tie as tie
+use Rattle.rules.proofs.shapes.empty_defunct.Reads as reads
+use Rattle.rules.proofs.shapes.empty_defunct.Lts as lts
+use Rattle.rules.proofs.shapes.zero_id.Reads as zero-id-reads
+use Rattle.rules.proofs.shapes.zero_lock.Reads as zero-lock-reads
+
+-- src/lib.rt:222:5
+zero-lock-requires : tie.Need-zero-lock-requires
+zero-lock-requires c κs = search needs
+
+-- src/lib.rt:226:11
+zero-id-requires : tie.Need-zero-id-requires
+zero-id-requires c κs = search needs
+
+-- src/lib.rt:219:1
+returns : tie.Need-returns
+unfolding isBlankD _and_ non
+returns c = cc
+
+pub empty-defunct-spec : {M : Type 1} → statement M
+empty-defunct-spec = tie.close (tie.spec zero-lock-requires zero-id-requires returns)
