@@ -16,7 +16,8 @@ use Rattle.operations.specs.declared.answers.Acknowledgement.{Acknowledg
 use Rattle.operations.specs.declared.answers.Acknowledgement.the-variants as acknowledgement
 use Rattle.operations.specs.declared.answers.DefunctExpiry.{DefunctExpiry}
 use Rattle.operations.specs.declared.answers.DefunctExpiry.the-variants as expiry
-use Rattle.operations.specs.Answers.{Paper, paperOf, renewalPaper, deletionPaper, expirationPaper, acknowledgementPaper, expiryPaper}
+use Rattle.lookups.specs.Papers.{Paper}
+use Rattle.operations.specs.Answers.{paperOf, renewalPaper, deletionPaper, expirationPaper, acknowledgementPaper, expiryPaper}
 
 -- ---- insertions and replacement
 answerOf : Paper → Answer
