@@ -1,3 +1,4 @@
+pub mod Beside
 pub mod Data
 pub mod Thin
 pub mod Types

@@ -1,6 +1,7 @@
 -- The types of the thin functions: the running state, what is handed to an operation, what it tells, and what it returns. Assumes nothing.
 use mathlib.Core.Path.{refl}
-use Rattle.adapter.proofs.Data.{Data, Out, of-struct, of-enum}
+use mir.Syntax.{w64}
+use Rattle.adapter.proofs.Data.{Data, Out, of-struct, of-enum, of-uint}
 use denote.Struct.Laws as LL
 use Rattle.state.proofs.LockState as LockState
 use Rattle.state.proofs.LockState.Laws as LockState′
@@ -42,6 +43,10 @@ use Rattle.locks.proofs.Dropping as Dropping
 use Rattle.locks.proofs.Dropping.Laws as Dropping′
 use Rattle.locks.proofs.Dropped as Dropped
 use Rattle.locks.proofs.Dropped.Laws as Dropped′
+use Rattle.locks.proofs.Update as Update
+use Rattle.locks.proofs.Update.Laws as Update′
+use Rattle.adapter.proofs.Updated as Updated
+use Rattle.adapter.proofs.Updated.Laws as Updated′
 
 -- ---- the state, and what is handed in
 abbrev pub state : Data
@@ -199,4 +204,23 @@ dropped = record {
   makes = λ 𝓤 H A W. LL.makes Dropped.the-type Dropped′.the-plain 𝓤 H A;
   parts = λ x v is. (LL.owed Dropped.the-type Dropped′.the-laws x _ is .0, LL.owed Dropped.the-type Dropped′.the-laws x _ is .1 .0);
   joins = λ t h ist ish. LL.owes Dropped.the-type Dropped′.the-laws (record { told = t; state = h }) (ist, (ish, tt));
+}
+
+-- ---- the generation, which is kept beside the state
+abbrev pub update : Data
+update = of-enum Update.the-type Update′.the-laws tt Update′.the-copy Update′.the-plain
+
+abbrev pub updated : Out (of-uint w64) update
+updated = record {
+  row = Updated.the-row;
+  name = Updated.struct .name;
+  pair = λ t g. record { told = t; generation = g };
+  told = λ x. x .told;
+  state = λ x. x .generation;
+  whole = λ x. refl;
+  tells = LL.tells Updated.the-type Updated′.the-laws;
+  typed = λ 𝓤 H A W x v is. LL.lawful Updated.the-type Updated′.the-laws 𝓤 H A W .typed x _ is .0;
+  makes = λ 𝓤 H A W. LL.makes Updated.the-type Updated′.the-plain 𝓤 H A;
+  parts = λ x v is. (LL.owed Updated.the-type Updated′.the-laws x _ is .0, LL.owed Updated.the-type Updated′.the-laws x _ is .1 .0);
+  joins = λ t g ist isg. LL.owes Updated.the-type Updated′.the-laws (record { told = t; generation = g }) (ist, (isg, tt));
 }

@@ -3,6 +3,7 @@
 // SPDX-License-Identifier: Apache-2.0
 use ids::LockId;
 use locks::Dropping;
+use locks::Update;
 use operations::answers::Acknowledgement;
 use operations::answers::Answer;
 use operations::answers::Lapse;
@@ -21,7 +22,13 @@ ghost use Rattle.operations.specs.Delete.{deleteOn, beginExpirationOn};
 ghost use Rattle.operations.specs.Replace.{commitReplacementOn};
 ghost use Rattle.operations.specs.Acknowledge.{acknowledgeOn, expireDefunctOn};
 ghost use Rattle.locks.specs.Locks.{deleteDefunctOn};
-ghost use Rattle.adapter.specs.Lent.{inserted, renewed, deleted, expired, replaced, acknowledged, defunctsExpired, dropped};
+ghost use Rattle.adapter.specs.Lent.{inserted, renewed, deleted, expired, replaced, acknowledged, defunctsExpired, dropped, updated, heldAfter, updateOn};
+
+// What is told, and the generation that holds afterwards.
+struct Updated {
+    told: Update,
+    generation: u64,
+}
 
 pub fn insert_active(state: &mut LockState, lock: ActiveLock) -> Answer
     ensures { λ r. ⌜ inserted r (now (state .exit)) ≡ insertActiveOn (now (state .entry)) lock ⌝ }
@@ -105,5 +112,35 @@ pub fn delete_defunct(state: &mut LockState, id: LockId, scope: ScopeKey, subjec
 {
     let r = locks::delete_defunct(*state, id, scope, subject);
     *state = r.state;
+    r.told
+}
+
+fn held_after(told: Update, generation: u64) -> u64
+    ensures { λ r. ⌜ r ≡ heldAfter told generation ⌝ }
+{
+    match told {
+        Update::UnsoundState(_) => generation,
+        Update::FunctionalGroupLocksHeld => generation,
+        Update::EcuLocksHeld => generation,
+        Update::Generation(n) => n,
+    }
+}
+
+fn update(s: LockState, generation: u64) -> Updated
+    ensures { λ r. ⌜ r ≡ updateOn s generation ⌝ }
+{
+    let told = locks::prepare_runtime_update(s, generation);
+    Updated {
+        told,
+        generation: held_after(told, generation),
+    }
+}
+
+// The generation is kept outside the state and is lent for change beside it; the state is only read.
+pub fn prepare_runtime_update(state: &LockState, generation: &mut u64) -> Update
+    ensures { λ r. ⌜ updated r (now (generation .exit)) ≡ updateOn (now (state .entry)) (now (generation .entry)) ⌝ }
+{
+    let r = update(*state, *generation);
+    *generation = r.generation;
     r.told
 }
