@@ -1,3 +1,4 @@
+pub mod Args
 pub mod Beside
 pub mod Data
 pub mod Thin

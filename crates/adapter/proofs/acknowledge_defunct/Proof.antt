@@ -7,7 +7,8 @@ use Rattle.state.specs.declared.LockState.{LockState}
 use Rattle.operations.specs.declared.answers.Acknowledged.{Acknowledged}
 use Rattle.operations.specs.Acknowledge.{acknowledgeOn}
 use Rattle.adapter.proofs.Types.{state, lock-id, acknowledgement, acknowledged}
-use Rattle.adapter.proofs.Thin.{Par, plain-par, Vs, Op, meets}
+use Rattle.adapter.proofs.Args.{Par, plain-par, Vs}
+use Rattle.adapter.proofs.Thin.{Op, meets}
 use Rattle.operations.proofs.acknowledge.acknowledge_defunct.Symbol as op-def
 use Rattle.operations.proofs.acknowledge.acknowledge_defunct.Symbol.{name as #op}
 use Rattle.operations.proofs.acknowledge.acknowledge_defunct.Met as op-thm

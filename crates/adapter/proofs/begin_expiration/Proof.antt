@@ -9,7 +9,8 @@ use Rattle.operations.specs.declared.answers.Expired.{Expired}
 use Rattle.operations.specs.Delete.{beginExpirationOn}
 use Rattle.adapter.proofs.Data.{of-uint}
 use Rattle.adapter.proofs.Types.{state, lock-id, lapse, expired}
-use Rattle.adapter.proofs.Thin.{Par, plain-par, Vs, Op, meets}
+use Rattle.adapter.proofs.Args.{Par, plain-par, Vs}
+use Rattle.adapter.proofs.Thin.{Op, meets}
 use Rattle.operations.proofs.delete.begin_expiration.Symbol as op-def
 use Rattle.operations.proofs.delete.begin_expiration.Symbol.{name as #op}
 use Rattle.operations.proofs.delete.begin_expiration.Met as op-thm

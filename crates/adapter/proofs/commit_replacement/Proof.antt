@@ -11,7 +11,8 @@ use Rattle.operations.specs.declared.answers.Replaced.{Replaced}
 use Rattle.operations.specs.Replace.{commitReplacementOn}
 use Rattle.adapter.proofs.Data.{of-uint}
 use Rattle.adapter.proofs.Types.{state, active-lock, replacement, replaced}
-use Rattle.adapter.proofs.Thin.{Par, plain-par, slice-par, Vs, Op, meets}
+use Rattle.adapter.proofs.Args.{Par, plain-par, slice-par, Vs}
+use Rattle.adapter.proofs.Thin.{Op, meets}
 use Rattle.operations.proofs.replace.commit_replacement.Symbol as op-def
 use Rattle.operations.proofs.replace.commit_replacement.Symbol.{name as #op}
 use Rattle.operations.proofs.replace.commit_replacement.Met as op-thm

@@ -7,7 +7,8 @@ use Rattle.state.specs.declared.LockState.{LockState}
 use Rattle.operations.specs.declared.answers.Deleted.{Deleted}
 use Rattle.operations.specs.Delete.{deleteOn}
 use Rattle.adapter.proofs.Types.{state, lock-id, removal, deleted}
-use Rattle.adapter.proofs.Thin.{Par, plain-par, Vs, Op, meets}
+use Rattle.adapter.proofs.Args.{Par, plain-par, Vs}
+use Rattle.adapter.proofs.Thin.{Op, meets}
 use Rattle.operations.proofs.delete.delete.Symbol as op-def
 use Rattle.operations.proofs.delete.delete.Symbol.{name as #op}
 use Rattle.operations.proofs.delete.delete.Met as op-thm

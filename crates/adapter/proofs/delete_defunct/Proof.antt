@@ -9,7 +9,8 @@ use Rattle.locks.specs.declared.Dropped.{Dropped}
 use Rattle.locks.specs.Locks.{deleteDefunctOn}
 use Rattle.adapter.proofs.Data.{of-uint}
 use Rattle.adapter.proofs.Types.{state, lock-id, scope-key, dropping, dropped}
-use Rattle.adapter.proofs.Thin.{Par, plain-par, Vs, Op, meets}
+use Rattle.adapter.proofs.Args.{Par, plain-par, Vs}
+use Rattle.adapter.proofs.Thin.{Op, meets}
 use Rattle.locks.proofs.delete_defunct.Symbol as op-def
 use Rattle.locks.proofs.delete_defunct.Symbol.{name as #op}
 use Rattle.locks.proofs.delete_defunct.Met as op-thm

@@ -9,7 +9,8 @@ use Rattle.operations.specs.declared.answers.DefunctsExpired.{DefunctsExpired}
 use Rattle.operations.specs.Acknowledge.{expireDefunctOn}
 use Rattle.adapter.proofs.Data.{of-uint}
 use Rattle.adapter.proofs.Types.{state, shed, defuncts-expired}
-use Rattle.adapter.proofs.Thin.{Par, plain-par, Vs, Op, meets}
+use Rattle.adapter.proofs.Args.{Par, plain-par, Vs}
+use Rattle.adapter.proofs.Thin.{Op, meets}
 use Rattle.operations.proofs.acknowledge.expire_defunct.Symbol as op-def
 use Rattle.operations.proofs.acknowledge.expire_defunct.Symbol.{name as #op}
 use Rattle.operations.proofs.acknowledge.expire_defunct.Met as op-thm

@@ -7,7 +7,8 @@ use Rattle.state.specs.declared.LockState.{LockState}
 use Rattle.operations.specs.declared.answers.Inserted.{Inserted}
 use Rattle.operations.specs.Insert.{insertActiveOn}
 use Rattle.adapter.proofs.Types.{state, active-lock, answer, inserted}
-use Rattle.adapter.proofs.Thin.{Par, plain-par, Vs, Op, meets}
+use Rattle.adapter.proofs.Args.{Par, plain-par, Vs}
+use Rattle.adapter.proofs.Thin.{Op, meets}
 use Rattle.operations.proofs.insert.insert_active.Symbol as op-def
 use Rattle.operations.proofs.insert.insert_active.Symbol.{name as #op}
 use Rattle.operations.proofs.insert.insert_active.Met as op-thm

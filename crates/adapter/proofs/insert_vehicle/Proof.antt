@@ -9,7 +9,8 @@ use Rattle.state.specs.declared.LockState.{LockState}
 use Rattle.operations.specs.declared.answers.Inserted.{Inserted}
 use Rattle.operations.specs.Vehicle.{insertVehicleOn}
 use Rattle.adapter.proofs.Types.{state, active-lock, answer, inserted}
-use Rattle.adapter.proofs.Thin.{Par, plain-par, slice-par, Vs, Op, meets}
+use Rattle.adapter.proofs.Args.{Par, plain-par, slice-par, Vs}
+use Rattle.adapter.proofs.Thin.{Op, meets}
 use Rattle.operations.proofs.vehicle.insert_vehicle.Symbol as op-def
 use Rattle.operations.proofs.vehicle.insert_vehicle.Symbol.{name as #op}
 use Rattle.operations.proofs.vehicle.insert_vehicle.Met as op-thm

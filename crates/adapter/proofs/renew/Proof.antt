@@ -9,7 +9,8 @@ use Rattle.operations.specs.declared.answers.Renewed.{Renewed}
 use Rattle.operations.specs.Renew.{renewOn}
 use Rattle.adapter.proofs.Data.{of-uint, of-bool}
 use Rattle.adapter.proofs.Types.{state, lock-id, renewal, renewed}
-use Rattle.adapter.proofs.Thin.{Par, plain-par, Vs, Op, meets}
+use Rattle.adapter.proofs.Args.{Par, plain-par, Vs}
+use Rattle.adapter.proofs.Thin.{Op, meets}
 use Rattle.operations.proofs.renew.renew.Symbol as op-def
 use Rattle.operations.proofs.renew.renew.Symbol.{name as #op}
 use Rattle.operations.proofs.renew.renew.Met as op-thm
