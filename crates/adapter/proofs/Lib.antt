@@ -2,4 +2,5 @@ pub mod Args
 pub mod Beside
 pub mod Data
 pub mod Thin
+pub mod Through
 pub mod Types

@@ -1,6 +1,8 @@
 // The adapter's one running state, lent for change: each function makes its operation on the state behind the reference,
 // leaves there the state that the operation gives, refused or not, and tells what the operation told.
 // SPDX-License-Identifier: Apache-2.0
+pub mod by_value;
+
 use ids::LockId;
 use locks::Dropping;
 use locks::Update;
