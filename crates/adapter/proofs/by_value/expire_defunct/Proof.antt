@@ -1,34 +1,12 @@
--- `adapter::by_value::expire_defunct` meets its contract: it lends its state to `adapter::expire_defunct` (`Through.antt`). Assumes nothing.
-use mathlib.Core.List.{List, [], _∷_}
-use mir.Syntax.{w64}
-use contract.Running.{givenOf, tables, tablesOf}
-use denote.Triple.Spec.{tripleOf}
-use denote.Triple.Table.{entered, cited}
-use Rattle.state.specs.declared.LockState.{LockState}
-use Rattle.operations.specs.declared.answers.DefunctsExpired.{DefunctsExpired}
-use Rattle.operations.specs.Acknowledge.{expireDefunctOn}
-use Rattle.adapter.proofs.Data.{of-uint}
-use Rattle.adapter.proofs.Types.{state, shed, defuncts-expired}
-use Rattle.adapter.proofs.Args.{Par, plain-par, Vs}
-use Rattle.adapter.proofs.Through.{Thin, meets}
-use Rattle.adapter.proofs.expire_defunct.Symbol as op-def
-use Rattle.adapter.proofs.expire_defunct.Symbol.{name as #op}
-use Rattle.adapter.proofs.expire_defunct.Met as op-thm
+-- `adapter::by_value::expire_defunct` meets its contract: it lends its state to `adapter::expire_defunct`. Assumes nothing.
+use Rattle.adapter.proofs.Use.{through}
+use Rattle.adapter.proofs.Uses as uses
+use Rattle.adapter.proofs.expire_defunct.Symbol as called
+use Rattle.adapter.proofs.expire_defunct.Met as known
 use Rattle.adapter.proofs.by_value.expire_defunct.Key.{name as #this}
-use Rattle.adapter.proofs.by_value.expire_defunct as this
 use Rattle.adapter.proofs.by_value.expire_defunct.Statement as stated
 use Rattle.adapter.proofs.by_value.expire_defunct.Code as code
 
-abbrev Ps : List (Par 0)
-Ps = plain-par 0 (of-uint w64) ∷ []
-
-abbrev F : LockState → Vs 0 Ps → DefunctsExpired
-F h x = expireDefunctOn h (x .0)
-
 pub expire-defunct-spec : {M : Type 1} → stated.statement M
-unfolding code.routine tablesOf
-expire-defunct-spec 𝓤 H 𝓜 𝓖 𝓡 =
-    entered 𝓤 H (tripleOf 𝓤 H (𝓖 .A) this.signature (this.spec 𝓤 H (𝓖 .A) (𝓜 .mem) (𝓡 .run)))
-    (tables 𝓤 H 𝓜 𝓡 code.env .C) (tables 𝓤 H 𝓜 𝓡 code.env .Λ) #this code.function (code.unfolded 𝓤 H 𝓜 𝓡)
-    (meets 0 Ps state shed defuncts-expired F 𝓤 H (𝓖 .A) (givenOf 𝓤 H 𝓜 𝓖) (tablesOf 𝓤 H 𝓜 (tables 𝓤 H 𝓜 𝓡 code.env)) #op
-    (cited 𝓤 H (Thin 0 Ps state shed defuncts-expired F 𝓤 H (𝓖 .A)) 𝓜 𝓡 code.env #op op-def.routine code.calls-adapter·expire-defunct (op-thm.met 𝓤 H 𝓜 𝓖 𝓡)))
+unfolding code.routine
+expire-defunct-spec 𝓤 H 𝓜 𝓖 𝓡 = through uses.expire-defunct 𝓤 H 𝓜 𝓖 𝓡 code.env #this called.name called.routine code.calls-adapter·expire-defunct (code.unfolded 𝓤 H 𝓜 𝓡) (known.met 𝓤 H 𝓜 𝓖 𝓡)

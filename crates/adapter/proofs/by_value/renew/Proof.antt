@@ -1,34 +1,12 @@
--- `adapter::by_value::renew` meets its contract: it lends its state to `adapter::renew` (`Through.antt`). Assumes nothing.
-use mathlib.Core.List.{List, [], _∷_}
-use mir.Syntax.{w32, w64}
-use contract.Running.{givenOf, tables, tablesOf}
-use denote.Triple.Spec.{tripleOf}
-use denote.Triple.Table.{entered, cited}
-use Rattle.state.specs.declared.LockState.{LockState}
-use Rattle.operations.specs.declared.answers.Renewed.{Renewed}
-use Rattle.operations.specs.Renew.{renewOn}
-use Rattle.adapter.proofs.Data.{of-uint, of-bool}
-use Rattle.adapter.proofs.Types.{state, lock-id, renewal, renewed}
-use Rattle.adapter.proofs.Args.{Par, plain-par, Vs}
-use Rattle.adapter.proofs.Through.{Thin, meets}
-use Rattle.adapter.proofs.renew.Symbol as op-def
-use Rattle.adapter.proofs.renew.Symbol.{name as #op}
-use Rattle.adapter.proofs.renew.Met as op-thm
+-- `adapter::by_value::renew` meets its contract: it lends its state to `adapter::renew`. Assumes nothing.
+use Rattle.adapter.proofs.Use.{through}
+use Rattle.adapter.proofs.Uses as uses
+use Rattle.adapter.proofs.renew.Symbol as called
+use Rattle.adapter.proofs.renew.Met as known
 use Rattle.adapter.proofs.by_value.renew.Key.{name as #this}
-use Rattle.adapter.proofs.by_value.renew as this
 use Rattle.adapter.proofs.by_value.renew.Statement as stated
 use Rattle.adapter.proofs.by_value.renew.Code as code
 
-abbrev Ps : List (Par 0)
-Ps = plain-par 0 lock-id ∷ plain-par 0 (of-uint w64) ∷ plain-par 0 (of-uint w64) ∷ plain-par 0 of-bool ∷ plain-par 0 (of-uint w32) ∷ []
-
-abbrev F : LockState → Vs 0 Ps → Renewed
-F h x = renewOn h (x .0) (x .1 .0) (x .1 .1 .0) (x .1 .1 .1 .0) (x .1 .1 .1 .1 .0)
-
 pub renew-spec : {M : Type 1} → stated.statement M
-unfolding code.routine tablesOf
-renew-spec 𝓤 H 𝓜 𝓖 𝓡 =
-    entered 𝓤 H (tripleOf 𝓤 H (𝓖 .A) this.signature (this.spec 𝓤 H (𝓖 .A) (𝓜 .mem) (𝓡 .run)))
-    (tables 𝓤 H 𝓜 𝓡 code.env .C) (tables 𝓤 H 𝓜 𝓡 code.env .Λ) #this code.function (code.unfolded 𝓤 H 𝓜 𝓡)
-    (meets 0 Ps state renewal renewed F 𝓤 H (𝓖 .A) (givenOf 𝓤 H 𝓜 𝓖) (tablesOf 𝓤 H 𝓜 (tables 𝓤 H 𝓜 𝓡 code.env)) #op
-    (cited 𝓤 H (Thin 0 Ps state renewal renewed F 𝓤 H (𝓖 .A)) 𝓜 𝓡 code.env #op op-def.routine code.calls-adapter·renew (op-thm.met 𝓤 H 𝓜 𝓖 𝓡)))
+unfolding code.routine
+renew-spec 𝓤 H 𝓜 𝓖 𝓡 = through uses.renew 𝓤 H 𝓜 𝓖 𝓡 code.env #this called.name called.routine code.calls-adapter·renew (code.unfolded 𝓤 H 𝓜 𝓡) (known.met 𝓤 H 𝓜 𝓖 𝓡)
