@@ -1,18 +1,22 @@
 -- What the code shows at each of its answers, each law once.
 -- Assumes nothing.
 use mathlib.Core.Path.{_≡_, refl, sym, ap, _∙_}
-use mathlib.Core.List.{List}
+use mathlib.Core.List.{List, []}
 use Prim.Native.Nat.{ℕ, _+_, _-_, _≤_, _<_, _^_, _%_}
 use native.Mathlib.Omega.{arith}
 use lib.ListN.{length, take, drop, length-drop, drop-of-length-le}
 use lib.Seq.{take-all, take-nil, drop-length}
 use borrow.Author.Tests.{eq-eqb, ne-eqb, le-leb, lt-leb}
 use Rattle.lists.proofs.Tests.{cond-true, cond-false}
+use Rattle.lists.specs.Places.{inPlaces}
+use Rattle.state.specs.declared.ActiveLock.{ActiveLock}
 use Rattle.state.specs.declared.LockState.{LockState}
+use Rattle.state.specs.Locks.{blankActive}
 use Rattle.rules.specs.declared.Verdict.{Verdict}
 use Rattle.rules.specs.declared.Verdict.the-variants.{Sound, Broken}
 use Rattle.rules.specs.Rules.{brokenRule}
 use Rattle.lookups.proofs.Verdicts.{on-broken, on-sound}
+use Rattle.operations.specs.declared.answers.DefunctsExpired.{DefunctsExpired}
 use Rattle.records.specs.declared.frame.Framed.{Framed}
 use Rattle.records.specs.declared.requests.Request.{Request}
 use Rattle.records.specs.Table.{inFeed}
@@ -21,7 +25,7 @@ use Rattle.image.specs.declared.Spare.{Spare}
 use Rattle.feed.specs.declared.events.Event.the-variants as E
 use Rattle.feed.specs.declared.events.Told.{Told}
 use Rattle.feed.specs.declared.events.Step.{Step}
-use Rattle.feed.specs.Feed.{distance, after, still, onward, actOn, turnOn, framedOn, stepOn}
+use Rattle.feed.specs.Feed.{distance, after, still, onward, byExpiry, actOn, turnOn, framedOn, stepOn}
 
 -- ---- numbers that go round
 pub distance-is : (q e d : ℕ) → q < 2 ^ 32 → e < 2 ^ 32 → d < 2 ^ 32 → (d + e) % 2 ^ 32 ≡ q → d ≡ distance q e
@@ -31,6 +35,17 @@ distance-is q e d hq he hd h = omega arith
 -- ---- an operation's answer put together
 pub onward-is : (sp : Spare) (t u : Told) (s : LockState) (e : ℕ) → t ≡ u → e ≡ after (sp .expected) → record { told = t; spare = record { state = s; expected = e } } ≡ onward sp u s
 onward-is sp t u s e f g = λ i. record { told = f i; spare = record { state = s; expected = g i } }
+
+pub expired-is : (sp : Spare) (q n : ℕ) (r : DefunctsExpired) (b : ActiveLock) (e : ℕ) → b ≡ blankActive → e ≡ after (sp .expected)
+    → record {
+      told = record { event = E.DefunctsExpired (r .told .answer); sequence = q; next = n; gone = 0; removed = inPlaces 64 b []; lapsed = r .told .gone; ids = r .told .ids };
+      spare = record { state = r .state; expected = e };
+    }
+    ≡ byExpiry sp q n r
+expired-is sp q n r b e f g = λ i. record {
+  told = record { event = E.DefunctsExpired (r .told .answer); sequence = q; next = n; gone = 0; removed = inPlaces 64 (f i) []; lapsed = r .told .gone; ids = r .told .ids };
+  spare = record { state = r .state; expected = g i };
+}
 
 -- ---- d is the distance
 module _ (sp : Spare) (b : List ℕ) (q n : ℕ) (r : Request) (d : ℕ) (e : d ≡ distance q (sp .expected)) where

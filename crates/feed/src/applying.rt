@@ -111,7 +111,13 @@ fn begin_expiration(spare: Spare, e: Expiration, sequence: u32, next: usize) -> 
     let removed = told.removed;
     let left = done.state;
     Step {
-        told: events::telling(Event::ExpirationBegun(answer), sequence, next, told.gone, removed),
+        told: events::telling(
+            Event::ExpirationBegun(answer),
+            sequence,
+            next,
+            told.gone,
+            removed,
+        ),
         spare: Spare {
             state: left,
             expected: turns::after(spare.expected),

@@ -18,10 +18,10 @@ use Rattle.feed.proofs.take_body.Reads as take-body-reads
 use Rattle.records.proofs.frame.frame_at.Reads as frame-at-reads
 use Rattle.rules.proofs.broken.Reads as broken-reads
 
-
 -- the part that the frame names is within
 spanned : (c : tie.After-struct-known) → Spans (now (c .before .before .before .before .before .before .before .before .before .before .args .feed)) (c .before .before .f .given .0 .0)
 spanned c = spans _ (c .before .before .before .before .before .before .before .before .before .before .args .at) inFeed _ (sym (c .before .before .before .before .frame-at .ensures) ∙ c .before .before .f .given .1)
+
 -- src/lib.rt:50:9
 broken-requires : tie.Need-broken-requires
 broken-requires c κs = search needs
