@@ -1,2 +1,4 @@
 pub mod Stepping
 pub mod Words
+pub mod Turning
+pub mod Running
