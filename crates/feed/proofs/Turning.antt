@@ -4,6 +4,7 @@
 --     act-state, act-due        an applied operation leaves the state that it leaves in a direct call, and the next number
 --                               is due, refused or not
 --     step-keeps                a sound spare stays sound over any bytes
+--     step-applies, step-passes the first two of a record in the bytes of a feed
 -- Assumes nothing.
 use mathlib.Core.Path.{_≡_, refl, sym, ap, _∙_}
 use mathlib.Core.Bool.{Bool, true, false, cond}
@@ -18,6 +19,7 @@ use Rattle.rules.specs.declared.Verdict.{Verdict}
 use Rattle.rules.specs.declared.Verdict.the-variants.{Sound, Broken}
 use Rattle.rules.specs.Rules.{brokenRule}
 use Rattle.lookups.specs.Reads.{byVerdict, onSound}
+use Rattle.records.specs.declared.frame.Frame.{Frame}
 use Rattle.records.specs.declared.frame.Framed.{Framed}
 use Rattle.records.specs.declared.frame.Framed.the-variants as framed
 use Rattle.records.specs.declared.requests.Request.{Request}
@@ -143,3 +145,20 @@ module _ (sp : Spare) (s : List ℕ) (at : ℕ) (e : brokenRule (sp .state) ≡ 
 
   pub step-keeps : brokenRule (stepOn sp s at .spare .state) ≡ Sound
   step-keeps = ap (λ (x : Step). brokenRule (x .spare .state)) step-sound ∙ framed-keeps (frameAt s at inFeed)
+
+-- ---- a record that can be read at a place of the feed
+module _ (sp : Spare) (s : List ℕ) (at : ℕ) (e : brokenRule (sp .state) ≡ Sound) (f : Frame) (g : frameAt s at inFeed ≡ framed.Record f) (q : ℕ) (r : Request)
+    (h : requestOf (f .kind) (part s (f .start) (f .size)) ≡ asked.Good q r) where
+  pub step-takes : stepOn sp s at ≡ turnOn sp (part s (f .start) (f .size)) q (f .next) r
+  step-takes = step-sound sp s at e ∙ ap (framedOn sp s at) g ∙ ap (askedOn sp (part s (f .start) (f .size)) at (f .next)) h
+
+  -- in turn: the operation's definition on the record's own arguments
+  pub step-applies : distance q (sp .expected) ≡ 0 → stepOn sp s at ≡ actOn sp (part s (f .start) (f .size)) q (f .next) r
+  step-applies z = step-takes ∙ in-turn sp (part s (f .start) (f .size)) q (f .next) r z
+
+  -- out of turn: nothing but the place
+  pub step-passes : (distance q (sp .expected) ≡ 0 → ⊥) → (stepOn sp s at .spare ≡ sp) × (stepOn sp s at .told .next ≡ f .next)
+  step-passes z = (
+    ap (λ (x : Step). x .spare) step-takes ∙ out-of-turn sp (part s (f .start) (f .size)) q (f .next) r z,
+    ap (λ (x : Step). x .told .next) step-takes ∙ turn-next sp (part s (f .start) (f .size)) q (f .next) r,
+  )
