@@ -45,6 +45,12 @@ use Rattle.locks.proofs.Dropped as Dropped
 use Rattle.locks.proofs.Dropped.Laws as Dropped′
 use Rattle.locks.proofs.Update as Update
 use Rattle.locks.proofs.Update.Laws as Update′
+use Rattle.image.proofs.Spare as Spare
+use Rattle.image.proofs.Spare.Laws as Spare′
+use Rattle.feed.proofs.events.Told as Told
+use Rattle.feed.proofs.events.Told.Laws as Told′
+use Rattle.feed.proofs.events.Step as Step
+use Rattle.feed.proofs.events.Step.Laws as Step′
 use Rattle.adapter.proofs.Updated as Updated
 use Rattle.adapter.proofs.Updated.Laws as Updated′
 
@@ -223,4 +229,26 @@ updated = record {
   makes = λ 𝓤 H A W. LL.makes Updated.the-type Updated′.the-plain 𝓤 H A;
   parts = λ x v is. (LL.owed Updated.the-type Updated′.the-laws x _ is .0, LL.owed Updated.the-type Updated′.the-laws x _ is .1 .0);
   joins = λ t g ist isg. LL.owes Updated.the-type Updated′.the-laws (record { told = t; generation = g }) (ist, (isg, tt));
+}
+
+-- ---- the spare, and a step over the feed
+abbrev pub spare : Data
+spare = of-struct Spare.the-type Spare′.the-laws Spare′.the-copy Spare′.the-plain
+
+abbrev pub told : Data
+told = of-struct Told.the-type Told′.the-laws Told′.the-copy Told′.the-plain
+
+abbrev pub stepped : Out spare told
+stepped = record {
+  row = Step.the-row;
+  name = Step.struct .name;
+  pair = λ t h. record { told = t; spare = h };
+  told = λ x. x .told;
+  state = λ x. x .spare;
+  whole = λ x. refl;
+  tells = LL.tells Step.the-type Step′.the-laws;
+  typed = λ 𝓤 H A W x v is. LL.lawful Step.the-type Step′.the-laws 𝓤 H A W .typed x _ is .0;
+  makes = λ 𝓤 H A W. LL.makes Step.the-type Step′.the-plain 𝓤 H A;
+  parts = λ x v is. (LL.owed Step.the-type Step′.the-laws x _ is .0, LL.owed Step.the-type Step′.the-laws x _ is .1 .0);
+  joins = λ t h ist ish. LL.owes Step.the-type Step′.the-laws (record { told = t; spare = h }) (ist, (ish, tt));
 }

@@ -1,7 +1,7 @@
 -- The operations as the adapter uses them: each with what is handed on beside the state, and the definition that is its contract. Assumes nothing.
 use mathlib.Core.List.{[], _∷_}
 use mir.Syntax.{w16, w32, w64}
-use denote.Builtin.{u64}
+use denote.Builtin.{u8, u64}
 use denote.Ref.{now}
 use Rattle.operations.specs.Insert.{insertActiveOn}
 use Rattle.operations.specs.Vehicle.{insertVehicleOn}
@@ -10,9 +10,10 @@ use Rattle.operations.specs.Delete.{deleteOn, beginExpirationOn}
 use Rattle.operations.specs.Replace.{commitReplacementOn}
 use Rattle.operations.specs.Acknowledge.{acknowledgeOn, expireDefunctOn}
 use Rattle.locks.specs.Locks.{deleteDefunctOn}
+use Rattle.feed.specs.Feed.{stepOn}
 use Rattle.adapter.proofs.Data.{of-uint, of-bool}
 use Rattle.adapter.proofs.Args.{plain-par, slice-par}
-use Rattle.adapter.proofs.Types.{state, active-lock, lock-id, scope-key, answer, inserted, renewal, renewed, removal, deleted, lapse, expired, replacement, replaced, acknowledgement, acknowledged, shed, defuncts-expired, dropping, dropped}
+use Rattle.adapter.proofs.Types.{state, active-lock, lock-id, scope-key, answer, inserted, renewal, renewed, removal, deleted, lapse, expired, replacement, replaced, acknowledgement, acknowledged, shed, defuncts-expired, dropping, dropped, spare, told, stepped}
 use Rattle.adapter.proofs.Use.{Use}
 
 abbrev pub insert-active : Use
@@ -41,3 +42,6 @@ expire-defunct = record { m = 0; Ps = plain-par 0 (of-uint w64) ∷ []; T = stat
 
 abbrev pub delete-defunct : Use
 delete-defunct = record { m = 0; Ps = plain-par 0 lock-id ∷ plain-par 0 scope-key ∷ plain-par 0 (of-uint w16) ∷ []; T = state; S = dropping; O = dropped; F = λ h x. deleteDefunctOn h (x .0) (x .1 .0) (x .1 .1 .0) }
+
+abbrev pub step : Use
+step = record { m = 1; Ps = slice-par 1 0 tt u8 ∷ plain-par 1 (of-uint w64) ∷ []; T = spare; S = told; O = stepped; F = λ h x. stepOn h (now (x .0)) (x .1 .0) }

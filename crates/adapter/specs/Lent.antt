@@ -22,6 +22,9 @@ use Rattle.locks.specs.declared.Update.{Update}
 use Rattle.locks.specs.declared.Update.the-variants.{UnsoundState, FunctionalGroupLocksHeld, EcuLocksHeld, Generation}
 use Rattle.locks.specs.declared.Dropped.{Dropped}
 use Rattle.locks.specs.Locks.{prepareUpdateOn}
+use Rattle.image.specs.declared.Spare.{Spare}
+use Rattle.feed.specs.declared.events.Told.{Told}
+use Rattle.feed.specs.declared.events.Step.{Step}
 use Rattle.adapter.specs.declared.Updated.{Updated}
 
 abbrev pub inserted : Answer → LockState → Inserted
@@ -60,3 +63,7 @@ heldAfter (Generation n) g = n
 
 unfoldable pub updateOn : LockState → ℕ → Updated
 updateOn s g = updated (prepareUpdateOn s g) (heldAfter (prepareUpdateOn s g) g)
+
+-- ---- a step over the feed, on the spare's state and expected number
+abbrev pub stepped : Told → Spare → Step
+stepped t s = record { told = t; spare = s }

@@ -1,6 +1,8 @@
 // For callers that keep a state by value: each lends it to the thin function and gives back what it tells beside what is left.
 // SPDX-License-Identifier: Apache-2.0
+use feed::events::Step;
 use ids::LockId;
+use image::Spare;
 use locks::Dropped;
 use operations::answers::Acknowledged;
 use operations::answers::DefunctsExpired;
@@ -20,6 +22,7 @@ ghost use Rattle.operations.specs.Delete.{deleteOn, beginExpirationOn};
 ghost use Rattle.operations.specs.Replace.{commitReplacementOn};
 ghost use Rattle.operations.specs.Acknowledge.{acknowledgeOn, expireDefunctOn};
 ghost use Rattle.locks.specs.Locks.{deleteDefunctOn};
+ghost use Rattle.feed.specs.Feed.{stepOn};
 
 pub fn insert_active(s: LockState, lock: ActiveLock) -> Inserted
     ensures { λ r. ⌜ r ≡ insertActiveOn s lock ⌝ }
@@ -104,4 +107,12 @@ pub fn delete_defunct(s: LockState, id: LockId, scope: ScopeKey, subject: u16) -
     let mut held = s;
     let told = crate::delete_defunct(&mut held, id, scope, subject);
     Dropped { told, state: held }
+}
+
+pub fn step(spare: Spare, feed: &[u8], at: usize) -> Step
+    ensures { λ r. ⌜ r ≡ stepOn spare (now (feed .entry)) at ⌝ }
+{
+    let mut held = spare;
+    let told = crate::step(&mut held, feed, at);
+    Step { told, spare: held }
 }

@@ -3,7 +3,9 @@
 // SPDX-License-Identifier: Apache-2.0
 pub mod by_value;
 
+use feed::events::Told;
 use ids::LockId;
+use image::Spare;
 use locks::Dropping;
 use locks::Update;
 use operations::answers::Acknowledgement;
@@ -24,7 +26,8 @@ ghost use Rattle.operations.specs.Delete.{deleteOn, beginExpirationOn};
 ghost use Rattle.operations.specs.Replace.{commitReplacementOn};
 ghost use Rattle.operations.specs.Acknowledge.{acknowledgeOn, expireDefunctOn};
 ghost use Rattle.locks.specs.Locks.{deleteDefunctOn};
-ghost use Rattle.adapter.specs.Lent.{inserted, renewed, deleted, expired, replaced, acknowledged, defunctsExpired, dropped, updated, heldAfter, updateOn};
+ghost use Rattle.feed.specs.Feed.{stepOn};
+ghost use Rattle.adapter.specs.Lent.{inserted, renewed, deleted, expired, replaced, acknowledged, defunctsExpired, dropped, updated, heldAfter, updateOn, stepped};
 
 // What is told, and the generation that holds afterwards.
 struct Updated {
@@ -144,5 +147,14 @@ pub fn prepare_runtime_update(state: &LockState, generation: &mut u64) -> Update
 {
     let r = update(*state, *generation);
     *generation = r.generation;
+    r.told
+}
+
+// One record of a feed on a spare that is lent for change.
+pub fn step(spare: &mut Spare, feed: &[u8], at: usize) -> Told
+    ensures { λ r. ⌜ stepped r (now (spare .exit)) ≡ stepOn (now (spare .entry)) (now (feed .entry)) at ⌝ }
+{
+    let r = feed::step(*spare, feed, at);
+    *spare = r.spare;
     r.told
 }
