@@ -22,7 +22,8 @@ use Rattle.operations.specs.declared.answers.Expired.{Expired}
 use Rattle.operations.specs.declared.answers.Replaced.{Replaced}
 use Rattle.operations.specs.declared.answers.Acknowledged.{Acknowledged}
 use Rattle.operations.specs.declared.answers.DefunctsExpired.{DefunctsExpired}
-use Rattle.operations.specs.Answers.{Paper, paper, paperOf, renewalPaper, deletionPaper, expirationPaper, acknowledgementPaper, expiryPaper}
+use Rattle.lookups.specs.Papers.{Paper, paper}
+use Rattle.operations.specs.Answers.{paperOf, renewalPaper, deletionPaper, expirationPaper, acknowledgementPaper, expiryPaper}
 use Rattle.operations.specs.Insert.{insertActiveOn}
 use Rattle.operations.specs.Vehicle.{insertVehicleOn}
 use Rattle.operations.specs.Renew.{renewOn}
