@@ -1,5 +1,4 @@
 -- `adapter::prepare_runtime_update` meets its contract: the state is read and the generation lent for change over `update` (`Beside.antt`). Assumes nothing.
-use Prim.Native.Nat.{ℕ}
 use mir.Syntax.{w64}
 use contract.Running.{givenOf, tables, tablesOf}
 use denote.Triple.Spec.{tripleOf}
