@@ -1,27 +1,26 @@
 -- "An applied operation moves the expected number on even if refused by 1..11 or 13; nothing else does."
 --     moves-on       where the number of a step's event is 0 to 11 or 13, the next number is due
 --     nothing-else   with any other number the spare stays as it is
--- So no operation that is applied answers 12 or 14.
+--     act-moves      so no operation that is applied answers 12 or 14
 -- Assumes nothing.
-use mathlib.Core.Path.{_≡_, refl, sym, ap, _∙_}
-use mathlib.Core.Bool.{Bool, true, false, cond}
-use mathlib.Core.List.{List, []}
+use mathlib.Core.Path.{_≡_, refl, ap}
+use mathlib.Core.Bool.{Bool, true, cond}
+use mathlib.Core.List.{List}
 use mathlib.Core.Option.{Option, none, some}
 use Prim.Native.Nat.{ℕ}
 use lib.Dec.{eqb, leb, ltb}
 use Rattle.lists.specs.Tests.{Yes, No, non}
 use Rattle.lists.specs.Lists.{any, find}
-use Rattle.lists.proofs.Tests.{against, cond-true, cond-both, cond-false}
+use Rattle.lists.proofs.Tests.{against, cond-both, cond-false}
 use Rattle.ids.specs.declared.LockId.{LockId}
 use Rattle.ids.specs.Words.{oddWords}
 use Rattle.state.specs.declared.ActiveLock.{ActiveLock}
 use Rattle.state.specs.declared.LockState.{LockState}
 use Rattle.state.specs.Locks.{hasId, hasIdD, normal}
 use Rattle.state.specs.Model.{Model, Limits, modelOf, stateOf, full, fits}
-use Rattle.rules.specs.declared.Verdict.{Verdict}
-use Rattle.rules.specs.declared.Verdict.the-variants.{Sound, Broken}
+use Rattle.rules.specs.declared.Verdict.the-variants.{Sound}
 use Rattle.rules.specs.Rules.{brokenRule, isSound}
-use Rattle.lookups.specs.Reads.{byVerdict, onSound}
+use Rattle.lookups.specs.Reads.{onSound}
 use Rattle.operations.specs.declared.answers.Answer.{Answer}
 use Rattle.operations.specs.declared.answers.Answer.the-variants.{Done, DuplicateId, DuplicateScope, ActiveLockNotFound, ParentNotFound, ParentNotVehicle, ReplacementScopeConflict, CoverageConflict, RevisionOverflow, NotRootVehicle, BadChild, OtherOwner, NotCovered, Invariant, UnsoundState, NoRoom, BadList}
 use Rattle.operations.specs.declared.answers.Renewal.{Renewal}
@@ -35,11 +34,11 @@ use Rattle.operations.specs.declared.answers.Acknowledged.{Acknowledged}
 use Rattle.operations.specs.declared.answers.DefunctsExpired.{DefunctsExpired}
 use Rattle.operations.specs.Answers.{isDone, refuseIf, andThen, paperOf, renewalPaper, deletionPaper, expirationPaper, acknowledgementPaper, expiryPaper}
 use Rattle.operations.specs.Checks.{atLast, checkList, checkRoom}
-use Rattle.operations.specs.Insert.{insertedIn, judgeInsert, insertActiveOn}
-use Rattle.operations.specs.Vehicle.{vehicleIn, judgeVehicle, insertVehicleOn}
+use Rattle.operations.specs.Insert.{judgeInsert, insertActiveOn}
+use Rattle.operations.specs.Vehicle.{judgeVehicle, insertVehicleOn}
 use Rattle.operations.specs.Renew.{renewedIn, judgeFound, judgeRenew, closedRenew, settledRenew, renewOn}
 use Rattle.operations.specs.Delete.{closedDelete, deleteFound, deleteOn, closedExpire, expireFound, beginExpirationOn}
-use Rattle.operations.specs.Replace.{replacedIn, judgeReplace, commitReplacementOn}
+use Rattle.operations.specs.Replace.{judgeReplace, commitReplacementOn}
 use Rattle.operations.specs.Acknowledge.{toldAcknowledge, acknowledgedTo, acknowledgeOn, lapsed, shedTo, expireDefunctOn}
 use Rattle.promises.proofs.Answered.{foreignIf, insert-parts, vehicle-parts, replace-parts, insert-own-if, vehicle-own-if, replace-own-if}
 use Rattle.promises.proofs.Closing.{insert-exactly, vehicle-exactly, replace-exactly}
@@ -54,12 +53,10 @@ use Rattle.records.specs.Table.{inFeed}
 use Rattle.records.specs.Framing.{frameAt}
 use Rattle.records.specs.Feeds.{requestOf}
 use Rattle.image.specs.declared.Spare.{Spare}
-use Rattle.feed.specs.declared.events.Event.{Event}
-use Rattle.feed.specs.declared.events.Event.the-variants as E
 use Rattle.feed.specs.declared.events.Step.{Step}
-use Rattle.feed.specs.Feed.{distance, after, still, idsPast, actOn, turnOn, askedOn, framedOn, stepOn, eventPaper}
+use Rattle.feed.specs.Feed.{distance, after, idsPast, actOn, turnOn, askedOn, framedOn, stepOn, eventPaper}
 use Rattle.feed.proofs.Words.{EvenIds, EvenAsked, asked-even}
-use Rattle.feed.proofs.Turning.{act-due, turn-comes}
+use Rattle.feed.proofs.Turning.{act-due, step-comes}
 
 -- 0 is done, "1..11 or 13" a refusal that counts
 abbrev pub moves : ℕ → Bool
@@ -188,7 +185,7 @@ module _ (s : LockState) (e : brokenRule s ≡ Sound) where
       P r = Yes (moves (expiryPaper (r .told .answer) .number))
 
 -- ---- a record in turn
-act-moves : (sp : Spare) (b : List ℕ) (q n : ℕ) → brokenRule (sp .state) ≡ Sound → (r : Request) → EvenIds b r → Yes (moves (numberOf (actOn sp b q n r)))
+pub act-moves : (sp : Spare) (b : List ℕ) (q n : ℕ) → brokenRule (sp .state) ≡ Sound → (r : Request) → EvenIds b r → Yes (moves (numberOf (actOn sp b q n r)))
 unfolding actOn eventPaper
 act-moves sp b q n e (Insert x) h = insert-moves (sp .state) e x
 act-moves sp b q n e (InsertVehicle x) h = vehicle-moves (sp .state) e x (idsPast 93 b) h
@@ -224,12 +221,8 @@ module _ (sp : Spare) (s : List ℕ) (at : ℕ) where
   framed-turn e (framed.Record f) = let b = part s (f .start) (f .size) in asked-turn e b (f .next) (requestOf (f .kind) b) (asked-even (f .kind) b)
 
   pub step-turn : Turn sp (stepOn sp s at)
-  unfolding stepOn onSound eventPaper
-  step-turn = go (brokenRule (sp .state)) refl
-    where
-      go : (v : Verdict) → brokenRule (sp .state) ≡ v → Turn sp (byVerdict v (λ n. still sp (E.UnsoundState n) 0 at) (framedOn sp s at (frameAt s at inFeed)))
-      go Sound e = framed-turn e (frameAt s at inFeed)
-      go (Broken n) e = stayed refl refl
+  unfolding eventPaper
+  step-turn = step-comes sp s at (Turn sp) (λ n. stayed refl refl) (λ e. framed-turn e (frameAt s at inFeed))
 
   by-turn : (x : Step) → Turn sp x → (Yes (moves (numberOf x)) → x .spare .expected ≡ after (sp .expected)) × (No (moves (numberOf x)) → x .spare ≡ sp)
   by-turn x (moved t e) = ((λ u. e), (λ u. absurd (against u t)))

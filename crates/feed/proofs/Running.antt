@@ -13,7 +13,7 @@ use lib.ListN.{length}
 use lib.Dec.{eqb}
 use borrow.Author.Tests.{eq-eqb, ne-eqb, eqb-true, eqb-false}
 use Rattle.lists.proofs.Tests.{cond-true, cond-false, cond-both}
-use Rattle.state.specs.Model.{stateOf, emptyModel, full}
+use Rattle.state.specs.Model.{emptyModel, full}
 use Rattle.rules.specs.declared.Verdict.{Verdict}
 use Rattle.rules.specs.declared.Verdict.the-variants.{Sound, Broken}
 use Rattle.rules.specs.Rules.{brokenRule}
@@ -33,11 +33,10 @@ use Rattle.image.specs.declared.Spare.{Spare}
 use Rattle.image.specs.declared.Reading.the-variants as reading
 use Rattle.image.specs.Image.{noSpare, readOn}
 use Rattle.image.proofs.Trips.{Accepted, accepted}
-use Rattle.feed.specs.declared.events.Event.the-variants as E
 use Rattle.feed.specs.declared.events.Step.{Step}
-use Rattle.feed.specs.Feed.{distance, after, still, turnOn, askedOn, framedOn, stepOn}
+use Rattle.feed.specs.Feed.{distance, after, turnOn, askedOn, framedOn, stepOn}
 use Rattle.feed.specs.Runs.{Numbered, fed, fedAll, inTurn, Mixed, done, due, other, Taken, nothing, taken, takenAsked, takenFramed, onTaken, recordsIn, stops, runOn}
-use Rattle.feed.proofs.Turning.{in-turn, out-of-turn, act-due, turn-next, turn-goes, turn-place, turn-keeps, step-sound, step-keeps}
+use Rattle.feed.proofs.Turning.{in-turn, out-of-turn, act-due, turn-next, turn-goes, turn-place, turn-keeps, step-sound, step-keeps, step-comes}
 
 -- ---- every state met is sound
 pub run-keeps : (k : ℕ) (sp : Spare) (s : List ℕ) (at : ℕ) → brokenRule (sp .state) ≡ Sound → brokenRule (runOn k sp s at .state) ≡ Sound
@@ -171,12 +170,7 @@ module _ (sp : Spare) (s : List ℕ) (at : ℕ) where
   moves-framed (framed.Record f) e = moves-asked (part s (f .start) (f .size)) (f .next) (let w = whole s at inFeed f e in omega (arith, w .ends)) (requestOf (f .kind) (part s (f .start) (f .size)))
 
   step-moves : Moves (stepOn sp s at)
-  unfolding stepOn onSound
-  step-moves = go (brokenRule (sp .state))
-    where
-      go : (v : Verdict) → Moves (byVerdict v (λ n. still sp (E.UnsoundState n) 0 at) (framedOn sp s at (frameAt s at inFeed)))
-      go Sound = moves-framed (frameAt s at inFeed) refl
-      go (Broken n) = inl (refl, refl)
+  step-moves = step-comes sp s at Moves (λ n. inl (refl, refl)) (λ e. moves-framed (frameAt s at inFeed) refl)
 
   pub run-stop : (k : ℕ) → stepOn sp s at .told .next ≤ at → runOn (suc k) sp s at ≡ sp
   unfolding runOn
@@ -188,15 +182,9 @@ module _ (sp : Spare) (s : List ℕ) (at : ℕ) where
 
   -- at the end of the feed there is nothing to read
   end-stops : length s ≤ at → stops (stepOn sp s at .told .event) ≡ true
-  unfolding stepOn onSound
-  end-stops h = go (brokenRule (sp .state))
-    where
-      torn : framed.Torn at ≡ frameAt s at inFeed
-      torn = under-four s at inFeed (omega arith)
-
-      go : (v : Verdict) → stops (byVerdict v (λ n. still sp (E.UnsoundState n) 0 at) (framedOn sp s at (frameAt s at inFeed)) .told .event) ≡ true
-      go Sound = ap (λ (f : Framed). stops (framedOn sp s at f .told .event)) (sym torn)
-      go (Broken n) = refl
+  end-stops h =
+      let torn : framed.Torn at ≡ frameAt s at inFeed = under-four s at inFeed (omega arith) in
+      step-comes sp s at (λ (x : Step). stops (x .told .event) ≡ true) (λ n. refl) (λ e. ap (λ (f : Framed). stops (framedOn sp s at f .told .event)) (sym torn))
 
   pub run-end : (k : ℕ) → length s ≤ at → runOn k sp s at ≡ sp
   unfolding runOn

@@ -1,6 +1,6 @@
 -- What the code shows at each of its answers, each law once.
 -- Assumes nothing.
-use mathlib.Core.Path.{_≡_, refl, sym, ap, _∙_}
+use mathlib.Core.Path.{_≡_, sym, ap, _∙_}
 use mathlib.Core.List.{List, []}
 use Prim.Native.Nat.{ℕ, _+_, _-_, _≤_, _<_, _^_, _%_}
 use native.Mathlib.Omega.{arith}

@@ -6,19 +6,17 @@
 --     step-keeps                a sound spare stays sound over any bytes
 --     step-applies, step-passes the first two of a record in the bytes of a feed
 -- Assumes nothing.
-use mathlib.Core.Path.{_≡_, refl, sym, ap, _∙_}
+use mathlib.Core.Path.{_≡_, refl, sym, ap, subst, _∙_}
 use mathlib.Core.Bool.{Bool, true, false, cond}
 use mathlib.Core.List.{List}
-use Prim.Native.Nat.{ℕ, _+_, _-_, _≤_, _<_, _^_, _%_}
+use Prim.Native.Nat.{ℕ, _-_, _<_, _^_}
 use native.Mathlib.Omega.{arith}
 use lib.Dec.{eqb, leb}
-use borrow.Author.Tests.{eq-eqb, ne-eqb, eqb-true, eqb-false}
-use Rattle.lists.proofs.Tests.{cond-true, cond-false, cond-both}
-use Rattle.state.specs.declared.LockState.{LockState}
+use borrow.Author.Tests.{eq-eqb, eqb-true}
+use Rattle.lists.proofs.Tests.{cond-true, cond-both}
 use Rattle.rules.specs.declared.Verdict.{Verdict}
 use Rattle.rules.specs.declared.Verdict.the-variants.{Sound, Broken}
 use Rattle.rules.specs.Rules.{brokenRule}
-use Rattle.lookups.specs.Reads.{byVerdict, onSound}
 use Rattle.records.specs.declared.frame.Frame.{Frame}
 use Rattle.records.specs.declared.frame.Framed.{Framed}
 use Rattle.records.specs.declared.frame.Framed.the-variants as framed
@@ -38,6 +36,7 @@ use Rattle.feed.specs.declared.events.Event.the-variants as E
 use Rattle.feed.specs.declared.events.Step.{Step}
 use Rattle.feed.specs.Feed.{distance, after, still, idsPast, actOn, turnOn, askedOn, framedOn, stepOn}
 use Rattle.feed.specs.Runs.{stops}
+use Rattle.feed.proofs.Stepping.{step-broken, step-framed}
 
 -- ---- numbers that go round: only the expected one is at distance 0
 pub distance-zero : (q e : ℕ) → q < 2 ^ 32 → e < 2 ^ 32 → distance q e ≡ 0 → q ≡ e
@@ -128,11 +127,19 @@ module _ (sp : Spare) (b : List ℕ) (q n : ℕ) where
     turn-keeps e = turn-comes (λ (x : Step). brokenRule (x .spare .state) ≡ Sound) (λ z. ap brokenRule (act-state r) ∙ accepted-again (sp .state) e (opOf b r)) (λ v g. e)
 
 -- ---- a step over any bytes
-module _ (sp : Spare) (s : List ℕ) (at : ℕ) (e : brokenRule (sp .state) ≡ Sound) where
-  pub step-sound : stepOn sp s at ≡ framedOn sp s at (frameAt s at inFeed)
-  unfolding stepOn onSound
-  step-sound = ap (λ (v : Verdict). byVerdict v (λ n. still sp (E.UnsoundState n) 0 at) (framedOn sp s at (frameAt s at inFeed))) e
+module _ (sp : Spare) (s : List ℕ) (at : ℕ) where
+  pub step-sound : brokenRule (sp .state) ≡ Sound → stepOn sp s at ≡ framedOn sp s at (frameAt s at inFeed)
+  step-sound e = sym (step-framed sp s at Sound (sym e) refl (frameAt s at inFeed) refl)
 
+  -- what holds of 12, and on a sound spare of what the frame gives, holds of the step
+  pub step-comes : (P : Step → Type 0) → ((n : ℕ) → P (still sp (E.UnsoundState n) 0 at)) → (brokenRule (sp .state) ≡ Sound → P (framedOn sp s at (frameAt s at inFeed))) → P (stepOn sp s at)
+  step-comes P f g = go (brokenRule (sp .state)) refl
+    where
+      go : (v : Verdict) → brokenRule (sp .state) ≡ v → P (stepOn sp s at)
+      go Sound e = subst P (sym (step-sound e)) (g e)
+      go (Broken n) e = subst P (step-broken sp s at (Broken n) (sym e) n refl) (f n)
+
+module _ (sp : Spare) (s : List ℕ) (at : ℕ) (e : brokenRule (sp .state) ≡ Sound) where
   asked-keeps : (b : List ℕ) (n : ℕ) (a : Asked) → brokenRule (askedOn sp b at n a .spare .state) ≡ Sound
   asked-keeps b n (asked.Good q r) = turn-keeps sp b q n r e
   asked-keeps b n asked.BadField = e
@@ -144,7 +151,7 @@ module _ (sp : Spare) (s : List ℕ) (at : ℕ) (e : brokenRule (sp .state) ≡ 
   framed-keeps (framed.Record f) = asked-keeps _ (f .next) (requestOf (f .kind) (part s (f .start) (f .size)))
 
   pub step-keeps : brokenRule (stepOn sp s at .spare .state) ≡ Sound
-  step-keeps = ap (λ (x : Step). brokenRule (x .spare .state)) step-sound ∙ framed-keeps (frameAt s at inFeed)
+  step-keeps = ap (λ (x : Step). brokenRule (x .spare .state)) (step-sound sp s at e) ∙ framed-keeps (frameAt s at inFeed)
 
 -- ---- a record that can be read at a place of the feed
 module _ (sp : Spare) (s : List ℕ) (at : ℕ) (e : brokenRule (sp .state) ≡ Sound) (f : Frame) (g : frameAt s at inFeed ≡ framed.Record f) (q : ℕ) (r : Request)

@@ -1,7 +1,6 @@
 -- The ids of a record as words: handed on as a part of an array, and always an even number of them, so that 14 is never the
 -- answer to a record that was read. Assumes nothing.
 use mathlib.Core.Path.{_≡_, sym, ap, _∙_}
-use mathlib.Core.Bool.{Bool}
 use mathlib.Core.List.{List}
 use mathlib.Core.Logic.{_⊎_, inl, inr, ⊎-elim}
 use Prim.Native.Nat.{ℕ, _+_, _-_, _*_, _/_, _%_, _≤_, min}
@@ -10,7 +9,7 @@ use native.Mathlib.Omega.{arith}
 use lib.ListN.{length, take, drop, length-drop}
 use lib.Dec.{eqb, leb}
 use borrow.Author.Tests.{eq-eqb, eqb-true, leb-true, leb-false}
-use Rattle.lists.specs.Tests.{_and_, non, No}
+use Rattle.lists.specs.Tests.{_and_, No}
 use Rattle.lists.specs.Places.{inPlaces}
 use Rattle.lists.proofs.Tests.{and-l, non-t, by, cond-both}
 use Rattle.ids.specs.Words.{oddWords}
