@@ -1,6 +1,6 @@
 -- Plain data, as the thin functions handle it: its type, its machine value and its laws. And what an operation returns: what it tells, beside the state that is left.
 --     Data             a type of plain data.      of-struct, of-enum, of-uint, of-bool      a declared struct, a declared enum, an unsigned integer, a bool
---     Out T S          a struct of two fields: what is told, S, and the state, T
+--     Out T S          a struct of two fields: what is told, S, and the state, T.      out      of such a declared struct, where its laws compute to these
 -- Assumes nothing.
 use mathlib.Core.Path.{_≡_, refl, sym, subst}
 use mathlib.Core.List.{[], _∷_, List}
@@ -14,7 +14,7 @@ use prog.Wp.{Heap}
 use ghost.Atoms.{Atoms}
 use types.Kit.{Given}
 use denote.RattleType.{RattleType}
-use denote.Laws.{Is, Tells, Makes}
+use denote.Laws.{Is, Typed, Tells, Makes}
 use denote.Memory.{lone}
 use denote.Plain.{UInt, uint-tells, uint-makes, uint-lawful, Boolean, bool-tells, bool-makes, bool-lawful}
 use denote.Struct.Declared.{Declared, row, fields}
@@ -121,3 +121,26 @@ pub record Out (T S : Data) : Type 2 where
   pub makes : {M : Type 1} (𝓤 : URA M) (H : Heap 𝓤) (A : Atoms 𝓤) (W : Given 𝓤 H A) → Makes 𝓤 H A row (Is row)
   pub parts : (x : row .Denot) (v : Val) → Is row x (v ∷ []) → Is (Row S) (told x) (S .val (told x) ∷ []) × Is (Row T) (state x) (T .val (state x) ∷ [])
   pub joins : (t : Of S) (h : Of T) → Is (Row S) t (S .val t ∷ []) → Is (Row T) h (T .val h ∷ []) → Is row (pair t h) (both T S t h ∷ [])
+
+module _ (T S : Data) (R : RattleType) (n : Sym) (pair : Of S → Of T → R .Denot) (told : R .Denot → Of S) (state : R .Denot → Of T) where
+  -- the relations of both fields, as a struct's laws have them
+  abbrev Both : Of S → Of T → Type 0
+  Both t h = Is (Row S) t (S .val t ∷ []) × (Is (Row T) h (T .val h ∷ []) × Unit {0})
+
+  abbrev pub out : ((x : R .Denot) → pair (told x) (state x) ≡ x) → Tells R (Is R) (λ x. both T S (told x) (state x) ∷ [])
+      → ((M : Type 1) (𝓤 : URA M) (H : Heap 𝓤) (A : Atoms 𝓤) (W : Given 𝓤 H A) (x : R .Denot) (vs : List Val) → Is R x vs → Typed (tyStruct n (tcons (ty S) (tcons (ty T) tnil)) ∷ []) vs)
+      → ((M : Type 1) (𝓤 : URA M) (H : Heap 𝓤) (A : Atoms 𝓤) → Makes 𝓤 H A R (Is R))
+      → ((x : R .Denot) (vs : List Val) → Is R x vs → Both (told x) (state x)) → ((t : Of S) (h : Of T) → Both t h → Is R (pair t h) (both T S t h ∷ [])) → Out T S
+  out whole tells typed makes owed owes = record {
+    row = R;
+    name = n;
+    pair = pair;
+    told = told;
+    state = state;
+    whole = whole;
+    tells = tells;
+    typed = λ 𝓤 H A W x v is. typed _ 𝓤 H A W x (v ∷ []) is .0;
+    makes = λ 𝓤 H A W. makes _ 𝓤 H A;
+    parts = λ x v is. (owed x (v ∷ []) is .0, owed x (v ∷ []) is .1 .0);
+    joins = λ t h ist ish. owes t h (ist, (ish, tt));
+  }
