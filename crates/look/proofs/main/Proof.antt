@@ -1,3 +1,4 @@
+-- `look::main` is safe and ends. Assumes nothing.
 use Prim.Native.Nat.{_≤_, _-_}
 use borrow.Author.Needs.{needs}
 use Rattle.look.proofs.main.Statement.{statement}

@@ -1,3 +1,4 @@
+-- `sweep::changed` is safe and ends: the two buffers keep their lengths. Assumes nothing.
 use mathlib.Core.Path.{_≡_}
 use Prim.Native.Nat.{_≤_, _-_}
 use lib.ListN.{length}

@@ -1,3 +1,4 @@
+-- `sweep::count_lines` is safe and ends. Assumes nothing.
 use Prim.Native.Nat.{_≤_, _-_}
 use borrow.Author.Needs.{needs}
 use Rattle.sweep.proofs.count_lines.Statement.{statement}

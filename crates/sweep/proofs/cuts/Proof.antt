@@ -1,3 +1,4 @@
+-- `sweep::cuts` is safe and ends: the buffer keeps its length. Assumes nothing.
 use mathlib.Core.Path.{_≡_}
 use Prim.Native.Nat.{_≤_, _-_}
 use lib.ListN.{length}

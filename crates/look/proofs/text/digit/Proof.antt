@@ -1,3 +1,4 @@
+-- `look::text::digit` meets its contract by its two cases. Assumes nothing.
 use Prim.Native.Nat.{_%_}
 use borrow.Author.Tests.{lt-ltb, le-ltb}
 use borrow.Author.Needs.{needs}

@@ -1,3 +1,4 @@
+-- `look::text::four` meets its contract: four digits. Assumes nothing.
 use Rattle.look.specs.Text.{fourOf}
 use borrow.Author.Needs.{needs}
 use Rattle.look.proofs.text.four.Statement.{statement}

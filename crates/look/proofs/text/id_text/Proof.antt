@@ -1,3 +1,4 @@
+-- `look::text::id_text` meets its contract: eight groups of four digits. Assumes nothing.
 use Rattle.look.proofs.Spelling.{spelled}
 use borrow.Author.Needs.{needs}
 use Rattle.look.proofs.text.id_text.Statement.{statement}

@@ -1,3 +1,4 @@
+-- `look::text::is_edge` meets its contract by its two cases. Assumes nothing.
 use Rattle.lists.proofs.Tests.{codes}
 use Rattle.look.specs.Text.{isEdge}
 use borrow.Author.Needs.{needs}
