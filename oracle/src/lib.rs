@@ -9,6 +9,7 @@
 //! - [`generate`]: seeded random sound states, operations, reads, feeds and damage.
 //! - [`small`]: every state and operation of a tiny universe.
 //! - [`bench`]: states and operations to time.
+//! - [`sweep`]: every single-byte change and every cut of an image.
 //! - [`original`]: the original itself behind numbers, for benchmarks.
 //!
 //! A differential run takes a state from [`generate`], hands it to [`judge::Judge`] and, as an
@@ -23,6 +24,7 @@ pub mod paper;
 pub mod rules;
 pub mod small;
 mod sovd;
+pub mod sweep;
 pub mod wire;
 
 pub use sovd::bridge as original;

@@ -3,6 +3,8 @@
 // SPDX-License-Identifier: Apache-2.0
 use coverage::LockCoverage;
 use ids::LockId;
+use image::Spare;
+use image::Writing;
 use operations::acknowledge;
 use operations::delete;
 use operations::insert;
@@ -100,7 +102,7 @@ fn changed(s: LockState, what: u8) -> u64 {
     }
 }
 
-// 0 copies the state, 1 tests it, the others are the operations.
+// 0 is the loop alone, 1 the test, the others are the operations.
 fn one(s: LockState, what: u8) -> u64 {
     if what == 0 {
         return sum(s);
@@ -123,6 +125,135 @@ fn turns(s: LockState, what: u8, n: u64) -> u64 {
     total
 }
 
+// ---- an image read and written, and what they are compared with: real copies. Each turn reads what the turn before left, at a
+// place that only the sum so far tells, so that no copy can be left out.
+fn low(x: u64) -> u8 {
+    (x % 256) as u8
+}
+
+fn wide(b: u8) -> u64 {
+    b as u64
+}
+
+fn place(total: u64, n: usize) -> usize {
+    if n == 0 {
+        return 0;
+    }
+    total as usize % n
+}
+
+// The image with another lowest byte of its revision.
+fn read_once(bytes: &mut [u8], total: u64) -> u64 {
+    if bytes.len() < 20 {
+        return 0;
+    }
+    bytes[4] = low(total);
+    let r = image::read::read_image(bytes);
+    let spare = r.spare;
+    sum(spare.state)
+}
+
+fn reads(bytes: &mut [u8], n: u64) -> u64 {
+    let mut total = 0u64;
+    let mut i = 0u64;
+    while i < n {
+        total = std::num::wrapping_add_u64(total, read_once(bytes, total));
+        i += 1;
+    }
+    total
+}
+
+fn write_once(spare: Spare, out: &mut [u8]) -> u64 {
+    match image::write::write_image(spare, out) {
+        Writing::Done(n) => byte_at(out, n / 2),
+        _ => 0,
+    }
+}
+
+fn byte_at(bytes: &[u8], i: usize) -> u64 {
+    if bytes.len() <= i {
+        return 0;
+    }
+    wide(bytes[i])
+}
+
+fn writes(s: LockState, out: &mut [u8], n: u64) -> u64 {
+    let mut a = Spare {
+        state: s,
+        expected: 0,
+    };
+    let mut total = 0u64;
+    let mut i = 0u64;
+    while i < n {
+        a.expected = (total % 1048576) as u32;
+        total = std::num::wrapping_add_u64(
+            total,
+            std::num::wrapping_add_u64(write_once(a, out), 1),
+        );
+        i += 1;
+    }
+    total
+}
+
+fn copy(from: &[u8], to: &mut [u8]) {
+    if to.len() < from.len() {
+        return;
+    }
+    let mut i: usize = 0;
+    while i < from.len() {
+        to[i] = from[i];
+        i += 1;
+    }
+}
+
+fn copy_once(bytes: &mut [u8], out: &mut [u8], total: u64) -> u64 {
+    if bytes.len() < 20 {
+        return 0;
+    }
+    bytes[4] = low(total);
+    copy(bytes, out);
+    byte_at(out, place(total, bytes.len()))
+}
+
+fn copies(bytes: &mut [u8], out: &mut [u8], n: u64) -> u64 {
+    let mut total = 0u64;
+    let mut i = 0u64;
+    while i < n {
+        let x = copy_once(bytes, out, total);
+        total = std::num::wrapping_add_u64(total, std::num::wrapping_add_u64(x, 1));
+        i += 1;
+    }
+    total
+}
+
+// Between two states.
+fn state_copies(s: LockState, n: u64) -> u64 {
+    let mut pool = [s; 2];
+    let mut total = 0u64;
+    let mut i = 0u64;
+    while i < n {
+        let k = (total % 2) as usize;
+        let t = pool[k];
+        pool[1 - k] = t;
+        total = std::num::wrapping_add_u64(total, t.revision);
+        i += 1;
+    }
+    total
+}
+
+fn by_bytes(bytes: &mut [u8], what: u8, n: u64) -> u64 {
+    let mut out = io::large_buffer();
+    let r = image::read::read_image(bytes);
+    let spare = r.spare;
+    match what {
+        10 => reads(bytes, n),
+        11 => writes(spare.state, &mut out, n),
+        12 => copies(bytes, &mut out, n),
+        13 => state_copies(spare.state, n),
+        _ => turns(spare.state, what, n),
+    }
+}
+
 fn main() {
     let mut input = io::large_buffer();
     let n = io::read_full(0, &mut input);
@@ -131,9 +262,7 @@ fn main() {
     }
     let what = input[0];
     let k = input[1] % 32;
-    let r = image::read::read_image(&input[2..n]);
-    let spare = r.spare;
-    let total = turns(spare.state, what, 1u64 << (k as u64));
+    let total = by_bytes(&mut input[2..n], what, 1u64 << (k as u64));
     io::print_decimal(1, total);
     io::write_all(1, b"\n");
 }
