@@ -5,6 +5,7 @@
 //! - [`rules`]: the sound-state test, rules 0 to 9.
 //! - [`wire`]: images and feed records, read and written.
 //! - [`judge`]: what the original answers, in the numbers of document 01; feed steps; `replay`.
+//! - [`boundary`]: the static library's answers, worked out by the judge; [`names`]: name tables.
 //! - [`paper`]: document 01 restated on the model, to be compared with the judge.
 //! - [`generate`]: seeded random sound states, operations, reads, feeds and damage.
 //! - [`small`]: every state and operation of a tiny universe.
@@ -16,9 +17,11 @@
 
 pub mod answer;
 pub mod bench;
+pub mod boundary;
 pub mod generate;
 pub mod judge;
 pub mod model;
+pub mod names;
 pub mod paper;
 pub mod rules;
 pub mod small;
