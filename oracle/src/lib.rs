@@ -9,6 +9,7 @@
 //! - [`paper`]: document 01 restated on the model, to be compared with the judge.
 //! - [`generate`]: seeded random sound states, operations, reads, feeds and damage.
 //! - [`small`]: every state and operation of a tiny universe.
+//! - [`vectors`]: a fixed sample of the answers as data.
 //! - [`bench`]: states and operations to time.
 //! - [`original`]: the original itself behind numbers, for benchmarks.
 //!
@@ -26,6 +27,7 @@ pub mod paper;
 pub mod rules;
 pub mod small;
 mod sovd;
+pub mod vectors;
 pub mod wire;
 
 pub use sovd::bridge as original;
