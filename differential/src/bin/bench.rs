@@ -245,7 +245,10 @@ impl Feed {
 }
 
 fn feeds(time: Duration) {
-    for (name, feed) in [("mixed, small states", Feed::mixed()), ("64 locks held", Feed::busy())] {
+    for (name, feed) in [
+        ("mixed, small states", Feed::mixed()),
+        ("64 locks held", Feed::busy()),
+    ] {
         let Feed {
             bytes, operations, ..
         } = feed;

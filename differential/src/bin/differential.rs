@@ -154,7 +154,10 @@ fn whole(operations: u64, seed: u64, threads: u64) -> ExitCode {
     );
     sum.add(&tally);
     // Whole blocks: as many as it takes, counted by a first one, so that threads don't matter.
-    let in_turn = Run::block(seed).operations.max(1);
+    let Some(first) = guarded("block", seed, || Run::block(seed)) else {
+        return ExitCode::FAILURE;
+    };
+    let in_turn = first.operations.max(1);
     let blocks = operations
         .saturating_sub(tally.operations)
         .div_ceil(in_turn)
