@@ -169,12 +169,20 @@ impl Event {
 /// One step over a feed from a place on.
 #[must_use]
 pub fn feed_step(spare: &Spare, feed: &[u8], at: usize) -> Step {
+    step(&Judge::new(&spare.state), spare.expected, feed, at)
+}
+
+/// The same on a state that is in the judge already.
+#[must_use]
+pub fn step(judge: &Judge, expected: u32, feed: &[u8], at: usize) -> Step {
     let stay = |event, next| Step {
         event,
         next,
-        spare: spare.clone(),
+        spare: Spare {
+            state: judge.state.clone(),
+            expected,
+        },
     };
-    let judge = Judge::new(&spare.state);
     if let Err(rule) = judge.original {
         return stay(Event::Refused(Refusal::UnsoundState(rule)), at);
     }
@@ -182,9 +190,9 @@ pub fn feed_step(spare: &Spare, feed: &[u8], at: usize) -> Step {
         Ok(record) => record,
         Err(refusal) => return stay(Event::Refused(refusal), at),
     };
-    let (sequence, expected) = (record.sequence, spare.expected);
+    let sequence = record.sequence;
     match sequence.wrapping_sub(expected) {
-        0 => apply_record(&judge, expected, &record),
+        0 => apply_record(judge, expected, &record),
         1..=2_147_483_647 => stay(Event::Ahead { sequence, expected }, record.next),
         _ => stay(Event::Repeat { sequence, expected }, record.next),
     }

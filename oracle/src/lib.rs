@@ -5,9 +5,11 @@
 //! - [`rules`]: the sound-state test, rules 0 to 9.
 //! - [`wire`]: images and feed records, read and written.
 //! - [`judge`]: what the original answers, in the numbers of document 01; feed steps; `replay`.
+//! - [`boundary`]: the static library's answers, worked out by the judge; [`names`]: name tables.
 //! - [`paper`]: document 01 restated on the model, to be compared with the judge.
 //! - [`generate`]: seeded random sound states, operations, reads, feeds and damage.
 //! - [`small`]: every state and operation of a tiny universe.
+//! - [`vectors`]: a fixed sample of the answers as data.
 //! - [`bench`]: states and operations to time.
 //! - [`sweep`]: every single-byte change and every cut of an image.
 //! - [`original`]: the original itself behind numbers, for benchmarks.
@@ -17,14 +19,17 @@
 
 pub mod answer;
 pub mod bench;
+pub mod boundary;
 pub mod generate;
 pub mod judge;
 pub mod model;
+pub mod names;
 pub mod paper;
 pub mod rules;
 pub mod small;
 mod sovd;
 pub mod sweep;
+pub mod vectors;
 pub mod wire;
 
 pub use sovd::bridge as original;

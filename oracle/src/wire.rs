@@ -294,6 +294,18 @@ fn run<'a, T>(
     Ok(list)
 }
 
+/// The lock of the ACTIVE record that these bytes begin with.
+pub fn read_active(bytes: &[u8]) -> Result<Active, Refusal> {
+    let (_, mut body, _) = frame(bytes, 0, |kind| kind == ACTIVE)?;
+    body.active().ok_or(Refusal::BadField(0))
+}
+
+/// The lock of the DEFUNCT record that these bytes begin with.
+pub fn read_defunct(bytes: &[u8]) -> Result<Defunct, Refusal> {
+    let (_, mut body, _) = frame(bytes, 0, |kind| kind == DEFUNCT)?;
+    body.defunct().ok_or(Refusal::BadField(0))
+}
+
 /// One feed record as read.
 #[derive(Clone, Debug, PartialEq, Eq)]
 pub struct FeedRecord {

@@ -1,0 +1,209 @@
+// SPDX-License-Identifier: Apache-2.0
+//! The static library beside the original, by seeds. A difference ends the run with the input.
+//!
+//! differential [OPERATIONS] [SEED] [THREADS]   random states until so many operations were run,
+//!                                              a part of the tiny universe, every byte of a
+//!                                              rich image; fails on an answer seldom seen
+//! differential block SEED                      one block of random states again
+//! differential tiny [STEP]                     every STEP-th state of the tiny universe
+
+use std::{
+    env,
+    process::ExitCode,
+    sync::{
+        Mutex,
+        atomic::{AtomicBool, AtomicU64, Ordering},
+    },
+    thread,
+    time::Instant,
+};
+
+use differential::{
+    run::{Run, rich, tiny_universe},
+    tally::{REACHABLE, Tally},
+};
+
+/// Each reachable answer is to be seen this often.
+const OFTEN: u64 = 100;
+
+fn main() -> ExitCode {
+    let words: Vec<String> = env::args().skip(1).collect();
+    let number = |place: usize, default: u64| match words.get(place) {
+        None => Some(default),
+        Some(word) => word.parse().ok(),
+    };
+    let numbers = match words.first().map(String::as_str) {
+        Some("block" | "tiny") => [number(1, 1), Some(0), Some(0)],
+        _ => [number(0, 1_000_000), number(1, 1), number(2, 2)],
+    };
+    let [Some(first), Some(seed), Some(threads)] = numbers else {
+        eprintln!("differential [OPERATIONS] [SEED] [THREADS] | block SEED | tiny [STEP]");
+        return ExitCode::from(2);
+    };
+    match words.first().map(String::as_str) {
+        Some("block") => {
+            let tally = Run::block(first);
+            tally.print();
+            println!(
+                "block {first}: no difference in {} operations",
+                tally.operations
+            );
+            ExitCode::SUCCESS
+        }
+        Some("tiny") => tiny(first.max(1) as usize),
+        _ => whole(first, seed, threads.max(1)),
+    }
+}
+
+/// Hands out places to threads until there are none left or one has failed.
+fn spread(threads: u64, places: u64, work: impl Fn(u64) -> Option<Tally> + Sync) -> Option<Tally> {
+    let (next, failed) = (AtomicU64::new(0), AtomicBool::new(false));
+    let sum = Mutex::new(Tally::default());
+    thread::scope(|scope| {
+        for _ in 0..threads {
+            scope.spawn(|| {
+                while !failed.load(Ordering::Relaxed) {
+                    let place = next.fetch_add(1, Ordering::Relaxed);
+                    if place >= places {
+                        break;
+                    }
+                    match work(place) {
+                        Some(tally) => sum.lock().expect("no thread panics with it").add(&tally),
+                        None => failed.store(true, Ordering::Relaxed),
+                    }
+                }
+            });
+        }
+    });
+    let failed = failed.into_inner();
+    (!failed).then(|| sum.into_inner().expect("no thread panics with it"))
+}
+
+/// A panic in a place is reported with the place, and ends the run.
+fn guarded(name: &str, place: u64, work: impl FnOnce() -> Tally) -> Option<Tally> {
+    match std::panic::catch_unwind(std::panic::AssertUnwindSafe(work)) {
+        Ok(tally) => Some(tally),
+        Err(_) => {
+            eprintln!("DIFFERENCE in {name} {place}");
+            None
+        }
+    }
+}
+
+fn tiny(step: usize) -> ExitCode {
+    let Some(tally) = tiny_part(step, 2) else {
+        return ExitCode::FAILURE;
+    };
+    tally.print();
+    println!(
+        "tiny universe, every {step}th state: {} states, {} operations, no difference",
+        tally.states, tally.operations
+    );
+    ExitCode::SUCCESS
+}
+
+fn tiny_part(step: usize, threads: u64) -> Option<Tally> {
+    let (states, operations) = tiny_universe(step);
+    let parts: Vec<_> = states.chunks(8).collect();
+    spread(threads, parts.len() as u64, |place| {
+        guarded("tiny part", place, || {
+            Run::small(parts[place as usize], &operations)
+        })
+    })
+}
+
+fn bytes_part(threads: u64) -> Option<Tally> {
+    let (image, records) = rich();
+    let mut tally = spread(threads, image.len().div_ceil(16) as u64, |place| {
+        let from = place as usize * 16;
+        guarded("image byte", from as u64, || {
+            Run::every_byte(&image, from, from + 16)
+        })
+    })?;
+    let of_records = spread(threads, records.len() as u64, |place| {
+        guarded("record", place, || {
+            Run::every_record_byte(&image, &records[place as usize])
+        })
+    })?;
+    tally.add(&of_records);
+    Some(tally)
+}
+
+fn whole(operations: u64, seed: u64, threads: u64) -> ExitCode {
+    let start = Instant::now();
+    let Some(mut sum) = bytes_part(threads) else {
+        return ExitCode::FAILURE;
+    };
+    println!(
+        "every byte of an image and of a record of each kind: {} calls, no difference ({:.0} s)",
+        sum.calls + sum.operations,
+        start.elapsed().as_secs_f64()
+    );
+    // A tenth of the operations goes to the tiny universe.
+    let (states, each) = tiny_universe(1);
+    let step = (states.len() as u64 * each.len() as u64 * 10 / operations.max(1)).max(1) | 1;
+    drop((states, each));
+    let Some(tally) = tiny_part(step as usize, threads) else {
+        return ExitCode::FAILURE;
+    };
+    println!(
+        "tiny universe, every {step}th state: {} states, {} operations, no difference ({:.0} s)",
+        tally.states,
+        tally.operations,
+        start.elapsed().as_secs_f64()
+    );
+    sum.add(&tally);
+    // Whole blocks: as many as it takes, counted by a first one, so that threads don't matter.
+    let Some(first) = guarded("block", seed, || Run::block(seed)) else {
+        return ExitCode::FAILURE;
+    };
+    let in_turn = first.operations.max(1);
+    let blocks = operations
+        .saturating_sub(tally.operations)
+        .div_ceil(in_turn)
+        + 1;
+    let done = AtomicU64::new(0);
+    let random = spread(threads, blocks, |place| {
+        let block = seed.wrapping_mul(1_000_000).wrapping_add(place);
+        let tally = guarded("block", block, || Run::block(block));
+        let count = done.fetch_add(1, Ordering::Relaxed) + 1;
+        if count.is_multiple_of((blocks / 10).max(1)) {
+            eprintln!(
+                "{count} of {blocks} blocks, {:.0} s",
+                start.elapsed().as_secs_f64()
+            );
+        }
+        tally
+    });
+    let Some(random) = random else {
+        return ExitCode::FAILURE;
+    };
+    sum.add(&random);
+    sum.print();
+    println!(
+        "no difference: {} operations and {} other calls on {} states, seed {seed}, {threads} threads, {:.0} s",
+        sum.operations,
+        sum.calls,
+        sum.states,
+        start.elapsed().as_secs_f64()
+    );
+    seldom(&sum)
+}
+
+fn seldom(sum: &Tally) -> ExitCode {
+    let mut code = ExitCode::SUCCESS;
+    for answer in REACHABLE.iter().chain(&["0 stale", "0 not due", "0 false"]) {
+        let count = sum.count(answer);
+        if count < OFTEN {
+            println!("SELDOM: answer {answer} was seen {count} times, {OFTEN} are asked for");
+            code = ExitCode::FAILURE;
+        }
+    }
+    for never in ["11.0", "12.0", "14"] {
+        if sum.count(never) > 0 {
+            println!("NEVER TO BE SEEN: answer {never}");
+            code = ExitCode::FAILURE;
+        }
+    }
+    code
+}

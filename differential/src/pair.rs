@@ -1,0 +1,338 @@
+// SPDX-License-Identifier: Apache-2.0
+//! One call to the library and one to the judge, compared. A difference panics with the input.
+
+use cablegorse::library;
+use oracle::{
+    boundary::{self, Applied, Full, Told},
+    judge::Judge,
+    model::{Operation, Scope},
+};
+
+/// Output buffers for both sides, filled with a pattern before each call.
+#[derive(Default)]
+pub struct Buffers {
+    pattern: u8,
+    ours: [Vec<u8>; 3],
+    theirs: [Vec<u8>; 3],
+}
+
+impl Buffers {
+    /// Buffers of these lengths, filled anew with another pattern.
+    fn fill(&mut self, lengths: [usize; 3]) {
+        self.pattern = self.pattern.wrapping_add(0x35) | 1;
+        for side in [&mut self.ours, &mut self.theirs] {
+            for (buffer, length) in side.iter_mut().zip(lengths) {
+                buffer.clear();
+                buffer.resize(length, self.pattern);
+            }
+        }
+    }
+}
+
+fn hex(bytes: &[u8]) -> String {
+    bytes.iter().map(|byte| format!("{byte:02x}")).collect()
+}
+
+fn told(told: library::Told) -> Told {
+    Told {
+        number: told.number,
+        count: told.count,
+        values: told.values,
+    }
+}
+
+fn applied(applied: library::Applied) -> Applied {
+    Applied {
+        told: told(applied.told),
+        part: applied.part,
+        sequence: applied.sequence,
+        place: applied.place,
+        written: applied.written,
+        gone: applied.gone,
+        lapsed: applied.lapsed,
+    }
+}
+
+/// An image and the judge that holds its state.
+pub struct Subject<'a> {
+    pub image: &'a [u8],
+    pub judge: &'a mut Judge,
+    pub expected: u32,
+}
+
+/// Applies one record on both sides. `lengths` gives the buffers' lengths from those needed.
+pub fn apply(
+    buffers: &mut Buffers,
+    subject: &Subject<'_>,
+    feed: &[u8],
+    at: usize,
+    lengths: impl FnOnce([usize; 3]) -> [usize; 3],
+) -> (Applied, Full) {
+    let full = boundary::step(subject.judge, subject.expected, feed, at);
+    let needed = [&full.next, &full.removed, &full.expired].map(Vec::len);
+    buffers.fill(lengths(needed));
+    let [next, removed, expired] = &mut buffers.theirs;
+    let due = full.put(at, next, removed, expired);
+    let [next, removed, expired] = &mut buffers.ours;
+    let got = applied(library::apply(
+        subject.image,
+        feed,
+        at,
+        next,
+        removed,
+        expired,
+    ));
+    if got != due || buffers.ours != buffers.theirs {
+        panic!(
+            "apply differs\nimage {}\nfeed {} at {at}\nlibrary {got:?}\njudge   {due:?}\nbuffers agree: {:?}",
+            hex(subject.image),
+            hex(feed),
+            [0, 1, 2].map(|i| buffers.ours[i] == buffers.theirs[i]),
+        );
+    }
+    (due, full)
+}
+
+/// Any bytes as image and feed, judged from nothing.
+pub fn apply_bytes(
+    buffers: &mut Buffers,
+    image: &[u8],
+    feed: &[u8],
+    at: usize,
+    lengths: [usize; 3],
+) -> Applied {
+    buffers.fill(lengths);
+    let [next, removed, expired] = &mut buffers.theirs;
+    let due = boundary::apply(image, feed, at, next, removed, expired);
+    let [next, removed, expired] = &mut buffers.ours;
+    let got = applied(library::apply(image, feed, at, next, removed, expired));
+    if got != due || buffers.ours != buffers.theirs {
+        panic!(
+            "apply differs on bytes\nimage {}\nfeed {} at {at}, buffers {lengths:?}\nlibrary {got:?}\njudge   {due:?}",
+            hex(image),
+            hex(feed),
+        );
+    }
+    due
+}
+
+fn parts(scope: Scope) -> (u8, u8) {
+    match scope {
+        Scope::Vehicle => (0, 0),
+        Scope::Ecu(ecu) => (1, ecu),
+        Scope::Group(group) => (2, group),
+    }
+}
+
+/// `delete_defunct` on both sides.
+pub fn delete_defunct(
+    buffers: &mut Buffers,
+    subject: &Subject<'_>,
+    operation: &Operation,
+    length: impl FnOnce(usize) -> usize,
+) -> Applied {
+    let Operation::DeleteDefunct {
+        id,
+        scope,
+        subject: owner,
+    } = operation
+    else {
+        panic!("not delete_defunct: {operation:?}");
+    };
+    let needed = subject.image.len();
+    buffers.fill([length(needed), 0, 0]);
+    let due = boundary::dropped(
+        subject.judge,
+        subject.expected,
+        operation,
+        &mut buffers.theirs[0],
+    );
+    let got = applied(library::delete_defunct(
+        subject.image,
+        id.words(),
+        parts(*scope),
+        *owner,
+        &mut buffers.ours[0],
+    ));
+    if got != due || buffers.ours != buffers.theirs {
+        panic!(
+            "delete_defunct differs\nimage {}\n{operation:?}\nlibrary {got:?}\njudge   {due:?}",
+            hex(subject.image)
+        );
+    }
+    due
+}
+
+/// `delete_defunct` with any numbers and bytes, judged from nothing.
+pub fn delete_defunct_bytes(
+    buffers: &mut Buffers,
+    image: &[u8],
+    id: [u64; 2],
+    scope: (u8, u8),
+    subject: u16,
+    length: usize,
+) -> Applied {
+    buffers.fill([length, 0, 0]);
+    let due =
+        boundary::delete_defunct(image, id, scope.0, scope.1, subject, &mut buffers.theirs[0]);
+    let got = applied(library::delete_defunct(
+        image,
+        id,
+        scope,
+        subject,
+        &mut buffers.ours[0],
+    ));
+    if got != due || buffers.ours != buffers.theirs {
+        panic!(
+            "delete_defunct differs on bytes\nimage {}\n{id:?} {scope:?} {subject}\nlibrary {got:?}\njudge   {due:?}",
+            hex(image)
+        );
+    }
+    due
+}
+
+/// A read's arguments.
+#[derive(Clone, Copy, Debug)]
+pub struct Question<'a> {
+    pub number: u32,
+    pub x: u64,
+    pub y: u64,
+    pub record: &'a [u8],
+}
+
+/// A read on both sides.
+pub fn read(
+    buffers: &mut Buffers,
+    subject: &mut Subject<'_>,
+    asked: Question<'_>,
+    length: usize,
+) -> Told {
+    let Question {
+        number,
+        x,
+        y,
+        record,
+    } = asked;
+    buffers.fill([length, 0, 0]);
+    let due = boundary::ask(subject.judge, number, x, y, record, &mut buffers.theirs[0]);
+    let got = told(library::read(
+        subject.image,
+        number,
+        x,
+        y,
+        record,
+        &mut buffers.ours[0],
+    ));
+    if got != due || buffers.ours != buffers.theirs {
+        panic!(
+            "read differs\nimage {}\n{asked:?}, out {length}\nlibrary {got:?}\njudge   {due:?}",
+            hex(subject.image)
+        );
+    }
+    due
+}
+
+/// A read of any bytes, judged from nothing.
+pub fn read_bytes(buffers: &mut Buffers, image: &[u8], asked: Question<'_>, length: usize) -> Told {
+    let Question {
+        number,
+        x,
+        y,
+        record,
+    } = asked;
+    buffers.fill([length, 0, 0]);
+    let due = boundary::read(image, number, x, y, record, &mut buffers.theirs[0]);
+    let got = told(library::read(
+        image,
+        number,
+        x,
+        y,
+        record,
+        &mut buffers.ours[0],
+    ));
+    if got != due || buffers.ours != buffers.theirs {
+        panic!(
+            "read differs on bytes\nimage {}\n{asked:?}, out {length}\nlibrary {got:?}\njudge   {due:?}",
+            hex(image)
+        );
+    }
+    due
+}
+
+/// The image's test on both sides.
+pub fn test(image: &[u8]) -> Told {
+    let (got, due) = (told(library::test(image)), boundary::test(image));
+    assert_eq!(
+        got,
+        due,
+        "test differs (library, judge)\nimage {}",
+        hex(image)
+    );
+    due
+}
+
+/// `prepare_runtime_update` on both sides.
+pub fn prepare(subject: &Subject<'_>, generation: u64) -> Told {
+    let got = told(library::prepare_runtime_update(subject.image, generation));
+    let due = boundary::prepared(subject.judge, generation);
+    assert_eq!(
+        got,
+        due,
+        "prepare_runtime_update {generation} differs (library, judge)\nimage {}",
+        hex(subject.image)
+    );
+    due
+}
+
+/// `prepare_runtime_update` of any bytes, judged from nothing.
+pub fn prepare_bytes(image: &[u8], generation: u64) -> Told {
+    let got = told(library::prepare_runtime_update(image, generation));
+    let due = boundary::prepare_runtime_update(image, generation);
+    assert_eq!(
+        got,
+        due,
+        "prepare_runtime_update {generation} differs (library, judge)\nimage {}",
+        hex(image)
+    );
+    due
+}
+
+/// A name's number on both sides; the table's own bytes are compared too. Returns them.
+pub fn name_number(table: &[u8], name: &[u8], folding: bool) -> (Told, Vec<u8>) {
+    let (mut ours, mut theirs) = (table.to_vec(), table.to_vec());
+    let got = told(library::name_number(&mut ours, name, folding));
+    let due = boundary::name_number(&mut theirs, name, folding);
+    if got != due || ours != theirs {
+        panic!(
+            "name_number differs\ntable {}\nname {}, folding {folding}\nlibrary {got:?}\njudge   {due:?}",
+            hex(table),
+            hex(name)
+        );
+    }
+    (due, theirs)
+}
+
+/// A number's name on both sides.
+pub fn name_at(
+    buffers: &mut Buffers,
+    table: &[u8],
+    number: u16,
+    folding: bool,
+    length: usize,
+) -> Told {
+    buffers.fill([length, 0, 0]);
+    let due = boundary::name_at(table, number, folding, &mut buffers.theirs[0]);
+    let got = told(library::name_at(
+        table,
+        number,
+        folding,
+        &mut buffers.ours[0],
+    ));
+    if got != due || buffers.ours != buffers.theirs {
+        panic!(
+            "name_at differs\ntable {}\nnumber {number}, folding {folding}, out {length}\nlibrary {got:?}\njudge   {due:?}",
+            hex(table)
+        );
+    }
+    due
+}

@@ -1,0 +1,539 @@
+// SPDX-License-Identifier: Apache-2.0
+//! What the differential run does. It goes by blocks: a block has its own seed, so that any
+//! number of threads gives the same run and a block that failed can be run alone.
+
+use cablegorse::Spare;
+use oracle::{
+    boundary::{self, Told},
+    generate::{self, Case, Profile, Rng},
+    judge::Judge,
+    model::{Operation, State},
+    names, small, wire,
+};
+
+use crate::{
+    pair::{self, Buffers, Question, Subject},
+    tally::{Tally, label},
+};
+
+/// Sound states in a block.
+pub const STATES: usize = 64;
+
+/// Kinds of operation tried on every state, in the order of [`Operation`]; those with the most
+/// answers twice or thrice.
+const KINDS: [usize; 14] = [0, 0, 0, 1, 1, 2, 3, 4, 5, 5, 5, 6, 7, 8];
+
+const FEED_NAMES: [&str; 8] = [
+    "insert_active",
+    "insert_vehicle",
+    "renew",
+    "delete",
+    "begin_expiration",
+    "commit_replacement",
+    "acknowledge_defunct",
+    "expire_defunct",
+];
+
+/// One thread's state.
+pub struct Run {
+    rng: Rng,
+    buffers: Buffers,
+    tally: Tally,
+}
+
+/// Lengths of the output buffers: mostly longer than needed, some exact, some short.
+fn lengths(rng: &mut Rng, needed: [usize; 3]) -> [usize; 3] {
+    let mut lengths = match rng.below(8) {
+        0 => needed,
+        1..=2 => [20_000, 6_000, 2_100],
+        _ => needed.map(|bytes| bytes + rng.below(40)),
+    };
+    if rng.percent(6) {
+        let which = rng.below(3);
+        lengths[which] = match rng.below(3) {
+            0 => 0,
+            1 => needed[which].saturating_sub(1),
+            _ => rng.below(needed[which] + 1),
+        };
+    }
+    lengths
+}
+
+impl Run {
+    fn new(seed: u64) -> Self {
+        // Neighbouring seeds give unrelated blocks.
+        let mut rng = Rng::new(seed);
+        let rng = Rng::new(rng.word());
+        Self {
+            rng,
+            buffers: Buffers::default(),
+            tally: Tally::default(),
+        }
+    }
+
+    /// Random sound states, everything on each.
+    #[must_use]
+    pub fn block(seed: u64) -> Tally {
+        let mut run = Self::new(seed);
+        for _ in 0..STATES {
+            run.state();
+        }
+        run.tables();
+        run.tally
+    }
+
+    fn state(&mut self) {
+        let case = Case::draw(&mut self.rng);
+        let expected = self.number();
+        let image = wire::write_image(&case.state, expected).expect("a sound state");
+        let kept = image.clone();
+        let mut judge = Judge::new(&case.state);
+        let mut subject = Subject {
+            image: &image,
+            judge: &mut judge,
+            expected,
+        };
+        self.tally.states += 1;
+        let told = pair::test(&image);
+        self.tally.see("test", label(&told));
+        for kind in KINDS {
+            let operation = generate::operation_of(&mut self.rng, &case, kind);
+            self.operation(&subject, &operation);
+        }
+        for kind in 0..14 {
+            self.read(&case, &mut subject, kind);
+        }
+        self.prepare(&subject);
+        self.odd_scope(&image);
+        assert_eq!(image, kept, "a lent image was written");
+        self.damaged(&case, &image);
+        self.unsound(&case, expected);
+        if matches!(
+            case.profile,
+            Profile::Tiny | Profile::Small | Profile::Empty
+        ) {
+            self.feed(&case, expected);
+        }
+    }
+
+    /// An expected number: often at the wrap.
+    fn number(&mut self) -> u32 {
+        match self.rng.below(6) {
+            0 => 0,
+            1 => u32::MAX - self.rng.below(4) as u32,
+            2 => 0x7fff_ffff + self.rng.below(3) as u32,
+            _ => self.rng.word() as u32,
+        }
+    }
+
+    fn operation(&mut self, subject: &Subject<'_>, operation: &Operation) {
+        let rng = &mut self.rng;
+        if matches!(operation, Operation::DeleteDefunct { .. }) {
+            let applied = pair::delete_defunct(&mut self.buffers, subject, operation, |needed| {
+                lengths(rng, [needed, 0, 0])[0]
+            });
+            self.tally.operations += 1;
+            return self.tally.see("delete_defunct", label(&applied.told));
+        }
+        let sequence = match rng.below(24) {
+            0 => subject.expected.wrapping_add(1 + rng.below(3) as u32),
+            1 => subject.expected.wrapping_sub(1 + rng.below(3) as u32),
+            2 => subject
+                .expected
+                .wrapping_add(0x7fff_fffe + rng.below(4) as u32),
+            _ => subject.expected,
+        };
+        // No record holds half an id or more than 64 of them.
+        let Some(record) = wire::write_feed(operation, sequence) else {
+            return;
+        };
+        // A record in the middle of other bytes is the same record.
+        let before = if rng.percent(20) { rng.below(70) } else { 0 };
+        let mut feed: Vec<u8> = (0..before).map(|_| rng.word() as u8).collect();
+        feed.extend_from_slice(&record);
+        if rng.percent(20) {
+            feed.extend((0..rng.below(9)).map(|_| rng.word() as u8));
+        }
+        let (applied, _) = pair::apply(&mut self.buffers, subject, &feed, before, |needed| {
+            lengths(rng, needed)
+        });
+        self.tally.operations += 1;
+        let name = FEED_NAMES[usize::from(operation.kind().unwrap_or(16) - 16)];
+        self.tally.see(name, answer(&applied.told, operation));
+    }
+
+    fn read(&mut self, case: &Case, subject: &mut Subject<'_>, kind: usize) {
+        let read = generate::read_of(&mut self.rng, case, kind);
+        let (mut number, mut x, mut y, mut record) = boundary::question(&read);
+        // Bytes after a record are ignored.
+        if self.rng.percent(10) {
+            record.push(self.rng.word() as u8);
+        }
+        if self.rng.percent(12) {
+            let odd = [0, 1, 3, 255, 256, 511, 512, 768, 65_535, 65_536, u64::MAX];
+            match self.rng.below(4) {
+                0 => x = odd[self.rng.below(odd.len())],
+                1 => y = odd[self.rng.below(odd.len())],
+                2 => generate::damage(&mut self.rng, &mut record),
+                _ => number = [0, 15, 16, u32::MAX, number][self.rng.below(5)],
+            }
+        }
+        let length =
+            [0, 15, 16, 90, 91, 103, 104, 1024, 1024, 1024, 2000, 2000][self.rng.below(12)];
+        let asked = Question {
+            number,
+            x,
+            y,
+            record: &record,
+        };
+        let told = pair::read(&mut self.buffers, subject, asked, length);
+        self.tally.calls += 1;
+        self.tally.see(read.name(), label(&told));
+    }
+
+    fn prepare(&mut self, subject: &Subject<'_>) {
+        let generation = [0, 1, u64::MAX - 1, u64::MAX][self.rng.below(4)];
+        let told = pair::prepare(subject, generation);
+        self.tally.calls += 1;
+        self.tally.see("prepare_runtime_update", label(&told));
+    }
+
+    /// A scope kind that can't be, or a vehicle with a number.
+    fn odd_scope(&mut self, image: &[u8]) {
+        let scope = [(3, 0), (255, 7), (0, 1), (0, 255)][self.rng.below(4)];
+        let id = [self.rng.word(), self.rng.word()];
+        let length = self.rng.below(2) * 20_000;
+        let applied = pair::delete_defunct_bytes(&mut self.buffers, image, id, scope, 1, length);
+        self.tally.calls += 1;
+        self.tally
+            .see("delete_defunct, odd scope", label(&applied.told));
+    }
+
+    /// Damaged images in every function that takes one.
+    fn damaged(&mut self, case: &Case, image: &[u8]) {
+        let operation = generate::operation(&mut self.rng, case);
+        let record = wire::write_feed(&operation, 0).unwrap_or_default();
+        for _ in 0..3 {
+            let mut bytes = image.to_vec();
+            for _ in 0..1 + self.rng.below(2) {
+                generate::damage(&mut self.rng, &mut bytes);
+            }
+            self.bytes(&bytes, &record);
+        }
+    }
+
+    /// States that break a rule, as images.
+    fn unsound(&mut self, case: &Case, expected: u32) {
+        for _ in 0..3 {
+            let state: State = generate::unsound(&mut self.rng, case);
+            let bytes = wire::write_records(&state, expected);
+            self.bytes(&bytes, &[]);
+        }
+    }
+
+    fn bytes(&mut self, image: &[u8], record: &[u8]) {
+        let told = pair::test(image);
+        self.tally.calls += 1;
+        self.tally.see("damaged image", label(&told));
+        match self.rng.below(4) {
+            0 => {
+                let lengths = [self.rng.below(20_000), 5824, 2048];
+                let applied = pair::apply_bytes(&mut self.buffers, image, record, 0, lengths);
+                self.tally
+                    .see("apply to a damaged image", label(&applied.told));
+            }
+            1 => {
+                let asked = Question {
+                    number: 1 + self.rng.below(14) as u32,
+                    x: 0,
+                    y: 0,
+                    record,
+                };
+                let told = pair::read_bytes(&mut self.buffers, image, asked, 1024);
+                self.tally.see("read of a damaged image", label(&told));
+            }
+            2 => {
+                let told = pair::prepare_bytes(image, 3);
+                self.tally.see("update on a damaged image", label(&told));
+            }
+            _ => {
+                let id = [0, self.rng.below(4) as u64];
+                let applied =
+                    pair::delete_defunct_bytes(&mut self.buffers, image, id, (1, 0), 1, 20_000);
+                self.tally
+                    .see("delete_defunct, damaged image", label(&applied.told));
+            }
+        }
+    }
+
+    /// A feed over a link that loses, repeats, reorders and damages, followed by the boundary
+    /// and by the safe wrapper.
+    fn feed(&mut self, case: &Case, expected: u32) {
+        if self.rng.percent(60) {
+            return;
+        }
+        let feed = self.through_a_link(case, expected);
+        let image = wire::write_image(&case.state, expected).expect("a sound state");
+        let mut spare = Spare::from_image(&image).expect("a sound state");
+        let (mut state, mut number, mut at) = (case.state.clone(), expected, 0);
+        loop {
+            let image = spare.image().to_vec();
+            let mut judge = Judge::new(&state);
+            let subject = Subject {
+                image: &image,
+                judge: &mut judge,
+                expected: number,
+            };
+            let rng = &mut self.rng;
+            let (_, full) = pair::apply(&mut self.buffers, &subject, &feed, at, |needed| {
+                needed.map(|bytes| bytes + rng.below(3))
+            });
+            let step = spare.apply(&feed, at);
+            self.tally.operations += 1;
+            self.tally.see("feed", label(&full.applied.told));
+            check_step(&step, &full, &spare, &image);
+            if full.applied.part != 2 && step.place == at {
+                break;
+            }
+            if full.applied.part == 2 {
+                let next = wire::read_image(spare.image()).expect("an image it wrote");
+                (state, number) = next;
+            }
+            at = step.place;
+        }
+    }
+
+    fn through_a_link(&mut self, case: &Case, expected: u32) -> Vec<u8> {
+        let mut case = case.clone();
+        let mut records: Vec<Vec<u8>> = Vec::new();
+        let mut sequence = expected;
+        for _ in 0..12 {
+            let operation = generate::operation(&mut self.rng, &case);
+            if let Some(record) = wire::write_feed(&operation, sequence) {
+                case.state = Judge::new(&case.state).apply(&operation).state;
+                sequence = sequence.wrapping_add(1);
+                records.push(record);
+            }
+        }
+        let mut sent: Vec<Vec<u8>> = Vec::new();
+        for record in &records {
+            match self.rng.below(20) {
+                0 => {}
+                1 | 2 => sent.extend([record.clone(), record.clone()]),
+                3 => {
+                    let earlier = self.rng.below(sent.len() + 1);
+                    sent.insert(earlier, record.clone());
+                }
+                _ => sent.push(record.clone()),
+            }
+        }
+        // What was lost or came early is sent again.
+        if self.rng.percent(60) {
+            sent.extend(records);
+        }
+        let mut feed = sent.concat();
+        if self.rng.percent(30) {
+            generate::damage(&mut self.rng, &mut feed);
+        }
+        feed
+    }
+
+    /// Name tables: growing, full, damaged.
+    fn tables(&mut self) {
+        let folding = self.rng.percent(50);
+        let mut table = vec![0; names::SIZE];
+        let count = [0, 3, 254, 255, 256][self.rng.below(5)];
+        for number in 0..count {
+            let name = format!("n{number}");
+            names::number(&mut table, name.as_bytes(), folding).expect("room");
+        }
+        for _ in 0..4 {
+            let name = self.name();
+            let (told, after) = pair::name_number(&table, &name, folding);
+            self.tally.calls += 1;
+            self.tally.see("name_number", label(&told));
+            table = after;
+            let number = self.rng.below(300) as u16;
+            self.name_at(&table, number, folding, "name_at");
+        }
+        for _ in 0..2 {
+            let mut bytes = table.clone();
+            match self.rng.below(5) {
+                0 => generate::damage(&mut self.rng, &mut bytes),
+                1 => bytes[0] = bytes[0].wrapping_add(1),
+                // A name twice.
+                2 => bytes.copy_within(2..67, 67),
+                3 => bytes[3] = bytes[3].to_ascii_uppercase(),
+                _ => bytes[2] = 65,
+            }
+            let name = self.name();
+            let (told, _) = pair::name_number(&bytes, &name, folding);
+            self.tally.calls += 1;
+            self.tally.see("name_number (damaged)", label(&told));
+            self.name_at(&bytes, 0, folding, "name_at (damaged)");
+        }
+    }
+
+    fn name_at(&mut self, table: &[u8], number: u16, folding: bool, function: &'static str) {
+        let length = [0, 1, 4, 64, 64, 70][self.rng.below(6)];
+        let told = pair::name_at(&mut self.buffers, table, number, folding, length);
+        self.tally.calls += 1;
+        self.tally.see(function, label(&told));
+    }
+
+    fn name(&mut self) -> Vec<u8> {
+        let length = [0, 1, 2, 63, 64, 65, 200][self.rng.below(7)];
+        match self.rng.below(3) {
+            0 => format!("N{}", self.rng.below(260)).into_bytes(),
+            1 => (0..length).map(|_| self.rng.word() as u8).collect(),
+            _ => (0..length).map(|i| b'A' + (i % 60) as u8).collect(),
+        }
+    }
+
+    /// Every `step`-th state of the tiny universe from a start on, with every operation on it.
+    #[must_use]
+    pub fn small(states: &[State], operations: &[Operation]) -> Tally {
+        let mut run = Self::new(7);
+        for state in states {
+            run.tally.states += 1;
+            let image = wire::write_image(state, 0).expect("a sound state");
+            let mut judge = Judge::new(state);
+            let subject = Subject {
+                image: &image,
+                judge: &mut judge,
+                expected: 0,
+            };
+            for operation in operations {
+                if matches!(operation, Operation::DeleteDefunct { .. }) {
+                    let applied =
+                        pair::delete_defunct(&mut run.buffers, &subject, operation, |needed| {
+                            needed
+                        });
+                    run.tally.see("tiny: delete_defunct", label(&applied.told));
+                } else if let Some(record) = wire::write_feed(operation, 0) {
+                    let (applied, _) =
+                        pair::apply(&mut run.buffers, &subject, &record, 0, |needed| {
+                            needed.map(|bytes| bytes + 1)
+                        });
+                    run.tally.see("tiny: apply", label(&applied.told));
+                }
+                run.tally.operations += 1;
+            }
+        }
+        run.tally
+    }
+
+    /// Every change of one byte, and every cut, of an image with every kind of record in it.
+    #[must_use]
+    pub fn every_byte(image: &[u8], from: usize, to: usize) -> Tally {
+        let mut run = Self::new(9);
+        for at in from..to.min(image.len()) {
+            let mut bytes = image.to_vec();
+            for change in 1..=255 {
+                bytes[at] = image[at].wrapping_add(change);
+                let told = pair::test(&bytes);
+                run.tally.see("one byte changed", label(&told));
+                run.tally.calls += 1;
+            }
+            let cut = &image[..at];
+            let told = pair::test(cut);
+            run.tally.see("cut", label(&told));
+            let applied = pair::apply_bytes(&mut run.buffers, cut, &[], 0, [100, 0, 0]);
+            assert_eq!(applied.part, 0);
+        }
+        run.tally
+    }
+
+    /// The same for a feed record on a state: every byte changed, every cut.
+    #[must_use]
+    pub fn every_record_byte(image: &[u8], record: &[u8]) -> Tally {
+        let mut run = Self::new(11);
+        let (state, expected) = wire::read_image(image).expect("an image");
+        let mut judge = Judge::new(&state);
+        let subject = Subject {
+            image,
+            judge: &mut judge,
+            expected,
+        };
+        let longer = |needed: [usize; 3]| needed.map(|bytes| bytes + 2);
+        for at in 0..record.len() {
+            let mut bytes = record.to_vec();
+            for change in 1..=255 {
+                bytes[at] = record[at].wrapping_add(change);
+                let (applied, _) = pair::apply(&mut run.buffers, &subject, &bytes, 0, longer);
+                run.tally
+                    .see("record, one byte changed", label(&applied.told));
+                run.tally.operations += 1;
+            }
+            let (applied, _) = pair::apply(&mut run.buffers, &subject, &record[..at], 0, longer);
+            run.tally.see("record, cut", label(&applied.told));
+        }
+        run.tally
+    }
+}
+
+/// States and operations of the tiny universe.
+#[must_use]
+pub fn tiny_universe(step: usize) -> (Vec<State>, Vec<Operation>) {
+    let states = small::states().into_iter().step_by(step).collect();
+    (states, small::operations())
+}
+
+/// An image with children, defunct chains and both kinds of coverage, of moderate length, and a
+/// record of each kind for it.
+#[must_use]
+pub fn rich() -> (Vec<u8>, Vec<Vec<u8>>) {
+    let mut rng = Rng::new(3);
+    loop {
+        let case = Case::of(&mut rng, Profile::Small);
+        let (active, defunct) = (&case.state.active, &case.state.defunct);
+        let child = active.iter().any(|a| a.parent.is_some());
+        let linked = defunct
+            .iter()
+            .any(|d| case.state.defunct_at(d.target).is_some());
+        if !child || !linked || case.state.revision > 1000 {
+            continue;
+        }
+        if active.len() != 5 || defunct.len() != 4 {
+            continue;
+        }
+        let image = wire::write_image(&case.state, 77).expect("a sound state");
+        let records = (0..8)
+            .filter_map(|kind| {
+                let operation = generate::operation_of(&mut rng, &case, kind);
+                wire::write_feed(&operation, 77)
+            })
+            .collect();
+        return (image, records);
+    }
+}
+
+fn answer(told: &Told, operation: &Operation) -> String {
+    match (told.number, operation, told.values[0]) {
+        (0, Operation::BeginExpiration { .. }, 1) => "0 stale".to_owned(),
+        (0, Operation::BeginExpiration { .. }, 2) => "0 not due".to_owned(),
+        (0, Operation::AcknowledgeDefunct { .. }, 0) => "0 false".to_owned(),
+        _ => label(told),
+    }
+}
+
+/// The wrapper says what the boundary said, and keeps the image that was written.
+fn check_step(step: &cablegorse::Step, full: &boundary::Full, spare: &Spare, before: &[u8]) {
+    let applied = &full.applied;
+    assert_eq!(step.number(), applied.told.number);
+    assert_eq!(step.applied, applied.part == 2);
+    assert_eq!(step.sequence, applied.sequence);
+    assert_eq!(step.place as u64, applied.place);
+    let removed: Vec<u8> = step.removed.iter().flat_map(|a| a.encode()).collect();
+    let expired: Vec<u8> = step.expired.iter().flat_map(|id| id.0).collect();
+    assert_eq!(
+        (removed, expired),
+        (full.removed.clone(), full.expired.clone())
+    );
+    let due = if applied.part == 2 {
+        &full.next
+    } else {
+        before
+    };
+    assert_eq!(spare.image(), due);
+}

@@ -1,0 +1,93 @@
+// SPDX-License-Identifier: Apache-2.0
+//! Streams of records, and what primary and spare tell each other beside them.
+
+/// Takes whole records off the front of what has arrived: each says its own length.
+pub fn records(arrived: &mut Vec<u8>) -> Vec<Vec<u8>> {
+    let mut records = Vec::new();
+    let mut at = 0;
+    while let Some([low, high]) = arrived.get(at..at + 2) {
+        let end = at + 2 + usize::from(u16::from_le_bytes([*low, *high]));
+        let Some(record) = arrived.get(at..end) else {
+            break;
+        };
+        records.push(record.to_vec());
+        at = end;
+    }
+    arrived.drain(..at);
+    records
+}
+
+/// From the spare to the primary: the number it expects, and whether it misses that record.
+#[derive(Clone, Copy, Debug, PartialEq, Eq)]
+pub struct Wish {
+    pub expected: u32,
+    pub resend: bool,
+}
+
+impl Wish {
+    pub fn encode(self) -> [u8; 5] {
+        let [a, b, c, d] = self.expected.to_le_bytes();
+        [a, b, c, d, self.resend.into()]
+    }
+
+    pub fn decode([a, b, c, d, resend]: [u8; 5]) -> Self {
+        Self {
+            expected: u32::from_le_bytes([a, b, c, d]),
+            resend: resend != 0,
+        }
+    }
+}
+
+/// An entry of the primary's book, which only the referee reads: a record with the image after
+/// it, or how far records were confirmed to testers.
+pub enum Entry {
+    Made { record: Vec<u8>, image: Vec<u8> },
+    Confirmed { expected: u32 },
+}
+
+impl Entry {
+    pub fn encode(&self) -> Vec<u8> {
+        let mut bytes = Vec::new();
+        match self {
+            Self::Made { record, image } => {
+                bytes.extend((record.len() as u32).to_le_bytes());
+                bytes.extend((image.len() as u32).to_le_bytes());
+                bytes.extend_from_slice(record);
+                bytes.extend_from_slice(image);
+            }
+            Self::Confirmed { expected } => {
+                bytes.extend(0u32.to_le_bytes());
+                bytes.extend(expected.to_le_bytes());
+            }
+        }
+        bytes
+    }
+
+    /// The whole entries of a book; a last one that is cut short is left out.
+    pub fn decode_all(book: &[u8]) -> Vec<Self> {
+        let mut entries = Vec::new();
+        let mut rest = book;
+        while let Some((head, after)) = rest.split_first_chunk::<8>() {
+            let [a, b, c, d, e, f, g, h] = *head;
+            let (first, second) = (
+                u32::from_le_bytes([a, b, c, d]),
+                u32::from_le_bytes([e, f, g, h]),
+            );
+            if first == 0 {
+                entries.push(Self::Confirmed { expected: second });
+                rest = after;
+                continue;
+            }
+            let (record, image) = (first as usize, second as usize);
+            let Some((body, after)) = after.split_at_checked(record + image) else {
+                break;
+            };
+            entries.push(Self::Made {
+                record: body[..record].to_vec(),
+                image: body[record..].to_vec(),
+            });
+            rest = after;
+        }
+        entries
+    }
+}

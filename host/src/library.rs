@@ -1,0 +1,257 @@
+// SPDX-License-Identifier: Apache-2.0
+//! The static library's functions on byte slices: the one module with `unsafe`.
+//!
+//! Each function here is safe and total: any bytes and any numbers get an answer. A refusal
+//! writes nothing into any buffer; a success keeps the bytes past its output. [`crate::Spare`]
+//! and [`crate::NameTable`] are built on these; a host that keeps its own buffers may call them
+//! as they are.
+#![allow(unsafe_code)]
+
+/// Bytes of the largest image: HEAD, 64 ACTIVE and 128 DEFUNCT records.
+pub const IMAGE_LIMIT: usize = 20 + 64 * 91 + 128 * 104;
+/// Bytes of the most removed locks, 64 ACTIVE records.
+pub const REMOVED_LIMIT: usize = 64 * 91;
+/// Bytes of the most expired ids, 128 of 16 bytes.
+pub const EXPIRED_LIMIT: usize = 128 * 16;
+
+/// An answer of one number and up to five values.
+#[repr(C)]
+#[derive(Clone, Copy, Debug, PartialEq, Eq, Default)]
+pub struct Told {
+    /// Document 01's number; 0 is no refusal.
+    pub number: u32,
+    /// How many of the values apply.
+    pub count: u32,
+    /// The values beside the number; those that don't apply are 0.
+    pub values: [u64; 5],
+}
+
+/// What applying a record, or dropping a defunct lock, answers.
+#[repr(C)]
+#[derive(Clone, Copy, Debug, PartialEq, Eq, Default)]
+pub struct Applied {
+    /// Document 01's number and its values.
+    pub told: Told,
+    /// 0: the image was refused. 1: the record was refused or out of turn. 2: applied, and the
+    /// number is the operation's own answer. 3: an output is too short.
+    pub part: u32,
+    /// The record's sequence, 0 where none was read.
+    pub sequence: u32,
+    /// Where the next record starts.
+    pub place: u64,
+    /// Bytes of the next image.
+    pub written: u64,
+    /// ACTIVE records of 91 bytes among the removed.
+    pub gone: u64,
+    /// Ids of 16 bytes among the expired.
+    pub lapsed: u64,
+}
+
+// What crosses the boundary is laid out as C does: two u32, five u64, and so on. In C an array
+// in a struct and a struct at the front lie where the single fields would.
+const _: () = {
+    assert!(size_of::<Told>() == 48 && align_of::<Told>() == 8);
+    assert!(size_of::<Applied>() == 88 && align_of::<Applied>() == 8);
+    // Lengths are u64 in the answers; a slice's length fits.
+    assert!(size_of::<usize>() == 8);
+};
+
+/// The foreign declarations, and nothing else. Nothing checks them against the library's source
+/// but this crate's tests and the differential run.
+mod raw {
+    use super::{Applied, Told};
+
+    // SAFETY: the archive exports these names with these types (docs/INTEGRATION.md, "The
+    // boundary"); a byte slice passes as pointer and length.
+    unsafe extern "C" {
+        pub fn cablegorse_apply(
+            image: *const u8,
+            image_len: usize,
+            feed: *const u8,
+            feed_len: usize,
+            at: usize,
+            next: *mut u8,
+            next_len: usize,
+            removed: *mut u8,
+            removed_len: usize,
+            expired: *mut u8,
+            expired_len: usize,
+        ) -> Applied;
+        pub fn cablegorse_delete_defunct(
+            image: *const u8,
+            image_len: usize,
+            hi: u64,
+            lo: u64,
+            kind: u8,
+            number: u8,
+            subject: u16,
+            next: *mut u8,
+            next_len: usize,
+        ) -> Applied;
+        pub fn cablegorse_prepare_runtime_update(
+            image: *const u8,
+            image_len: usize,
+            generation: u64,
+        ) -> Told;
+        pub fn cablegorse_test(image: *const u8, image_len: usize) -> Told;
+        pub fn cablegorse_read(
+            image: *const u8,
+            image_len: usize,
+            question: u32,
+            x: u64,
+            y: u64,
+            record: *const u8,
+            record_len: usize,
+            out: *mut u8,
+            out_len: usize,
+        ) -> Told;
+        pub fn cablegorse_name_number(
+            table: *mut u8,
+            table_len: usize,
+            name: *const u8,
+            name_len: usize,
+            folding: bool,
+        ) -> Told;
+        pub fn cablegorse_name_at(
+            table: *const u8,
+            table_len: usize,
+            number: u16,
+            folding: bool,
+            out: *mut u8,
+            out_len: usize,
+        ) -> Told;
+        // SAFETY: numbers in, a number out.
+        pub safe fn cablegorse_response_class(number: u64) -> u32;
+    }
+}
+
+/// Applies the feed's record at a place to an image, and writes the next image, the removed
+/// locks (ACTIVE records) and the expired ids.
+#[must_use]
+pub fn apply(
+    image: &[u8],
+    feed: &[u8],
+    at: usize,
+    next: &mut [u8],
+    removed: &mut [u8],
+    expired: &mut [u8],
+) -> Applied {
+    // SAFETY: each pair is a live slice's pointer and length. The borrows keep the three
+    // buffers apart from each other and from what is read, which the library's proof assumes.
+    // The library reads and writes within the lengths, keeps no pointer and never unwinds.
+    unsafe {
+        raw::cablegorse_apply(
+            image.as_ptr(),
+            image.len(),
+            feed.as_ptr(),
+            feed.len(),
+            at,
+            next.as_mut_ptr(),
+            next.len(),
+            removed.as_mut_ptr(),
+            removed.len(),
+            expired.as_mut_ptr(),
+            expired.len(),
+        )
+    }
+}
+
+/// 001's `delete_defunct` on an image; the id as two big-endian halves, the scope as kind and
+/// number. The next image is written only where the state changed.
+#[must_use]
+pub fn delete_defunct(
+    image: &[u8],
+    id: [u64; 2],
+    scope: (u8, u8),
+    subject: u16,
+    next: &mut [u8],
+) -> Applied {
+    // SAFETY: as in `apply`.
+    unsafe {
+        raw::cablegorse_delete_defunct(
+            image.as_ptr(),
+            image.len(),
+            id[0],
+            id[1],
+            scope.0,
+            scope.1,
+            subject,
+            next.as_mut_ptr(),
+            next.len(),
+        )
+    }
+}
+
+/// 001's `prepare_runtime_update`: 0 and the generation from now on, 24, 25, or the image's
+/// refusal.
+#[must_use]
+pub fn prepare_runtime_update(image: &[u8], generation: u64) -> Told {
+    // SAFETY: a live slice's pointer and length; the library only reads.
+    unsafe { raw::cablegorse_prepare_runtime_update(image.as_ptr(), image.len(), generation) }
+}
+
+/// Whether these bytes are an image of a sound state: 0 with revision, expected number and both
+/// counts, or the refusal.
+#[must_use]
+pub fn test(image: &[u8]) -> Told {
+    // SAFETY: a live slice's pointer and length; the library only reads.
+    unsafe { raw::cablegorse_test(image.as_ptr(), image.len()) }
+}
+
+/// One of the reads, by its number in docs/INTEGRATION.md.
+#[must_use]
+pub fn read(image: &[u8], question: u32, x: u64, y: u64, record: &[u8], out: &mut [u8]) -> Told {
+    // SAFETY: as in `apply`.
+    unsafe {
+        raw::cablegorse_read(
+            image.as_ptr(),
+            image.len(),
+            question,
+            x,
+            y,
+            record.as_ptr(),
+            record.len(),
+            out.as_mut_ptr(),
+            out.len(),
+        )
+    }
+}
+
+/// A name's number in a table of 16,642 bytes; a new name is entered. `folding`: as ECU and
+/// group names are kept, in small letters.
+#[must_use]
+pub fn name_number(table: &mut [u8], name: &[u8], folding: bool) -> Told {
+    // SAFETY: as in `apply`.
+    unsafe {
+        raw::cablegorse_name_number(
+            table.as_mut_ptr(),
+            table.len(),
+            name.as_ptr(),
+            name.len(),
+            folding,
+        )
+    }
+}
+
+/// A number's name: 0 with 1 and its length, or 0 with 0 where the table has no such number.
+#[must_use]
+pub fn name_at(table: &[u8], number: u16, folding: bool, out: &mut [u8]) -> Told {
+    // SAFETY: as in `apply`.
+    unsafe {
+        raw::cablegorse_name_at(
+            table.as_ptr(),
+            table.len(),
+            number,
+            folding,
+            out.as_mut_ptr(),
+            out.len(),
+        )
+    }
+}
+
+/// The response class of a refusal number: 0 none, 1 BadRequest, 2 Conflict,
+/// 3 InternalServerError, 4 Forbidden.
+#[must_use]
+pub fn response_class(number: u64) -> u32 {
+    raw::cablegorse_response_class(number)
+}

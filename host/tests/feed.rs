@@ -1,0 +1,388 @@
+// SPDX-License-Identifier: Apache-2.0
+//! Feed records through the safe wrapper: document 01's samples and bench rows, refusals with
+//! their data, and what a spare keeps.
+
+use cablegorse::{
+    Active, Coverage, Done, Lock, LockId, Operation, Reason, Refusal, ResponseClass, Scope, Spare,
+    library, response_class,
+};
+
+fn id(number: u128) -> LockId {
+    LockId::from_u128(number)
+}
+
+fn lock(number: u128, scope: Scope, ecus: &[u8], subject: u16) -> Active {
+    Active {
+        lock: Lock {
+            id: id(number),
+            scope,
+            exclusive: false,
+            coverage: Coverage::of(ecus),
+            subject,
+            principal: 0,
+            metadata: 0,
+        },
+        expires: 100,
+        parent: None,
+    }
+}
+
+fn vehicle(number: u128, subject: u16) -> Active {
+    let mut vehicle = lock(number, Scope::Vehicle, &[], subject);
+    vehicle.lock.coverage = Coverage::Vehicle;
+    vehicle
+}
+
+fn perform(spare: &mut Spare, operation: Operation) -> cablegorse::Step {
+    spare.perform(&operation).expect("few ids").1
+}
+
+fn insert(spare: &mut Spare, lock: Active) -> Result<Done, Refusal> {
+    perform(spare, Operation::InsertActive { lock }).answer
+}
+
+/// Document 01's bench sheet begins so.
+fn a() -> Spare {
+    let mut spare = Spare::empty();
+    assert_eq!(
+        insert(&mut spare, lock(1, Scope::Ecu(5), &[5], 1)),
+        Ok(Done::Done)
+    );
+    assert_eq!((spare.revision(), spare.expected()), (1, 1));
+    spare
+}
+
+#[test]
+fn the_sample_feed() {
+    let mut feed = vec![0x16, 0, 0x13, 0, 0, 0, 0, 0];
+    feed.extend([1; 16]);
+    feed.extend([0x0e, 0, 0x17, 0, 2, 0, 0, 0]);
+    feed.extend([0; 8]);
+    feed.extend([0x0e, 0, 0x17, 0, 1, 0, 0, 0]);
+    feed.extend([0; 8]);
+    let mut spare = Spare::empty();
+    let mut at = 0;
+    let mut lines = Vec::new();
+    while at < feed.len() {
+        let step = spare.apply(&feed, at);
+        lines.push((step.sequence, step.number(), spare.revision()));
+        at = step.place;
+    }
+    assert_eq!(lines, [(0, 3, 0), (2, 16, 0), (1, 0, 0)]);
+    assert_eq!(spare.expected(), 2);
+    // Past the end: 17 there, and the place stays.
+    let step = spare.apply(&feed, at);
+    assert_eq!(step.answer, Err(Refusal::Torn { offset: at }));
+    assert!(step.is_bad() && step.place == at);
+}
+
+#[test]
+fn insertion_and_conflicts() {
+    let mut spare = a();
+    let group = |ecus: &[u8]| lock(2, Scope::FunctionalGroup(3), ecus, 2);
+    assert_eq!(
+        insert(&mut spare, group(&[5, 6])),
+        Err(Refusal::CoverageConflict(id(1)))
+    );
+    // Refused, but the number moved on and the revision didn't.
+    assert_eq!((spare.revision(), spare.expected()), (1, 2));
+    assert_eq!(insert(&mut spare, group(&[6])), Ok(Done::Done));
+    assert_eq!(
+        insert(&mut spare, lock(2, Scope::Ecu(9), &[9], 1)),
+        Err(Refusal::DuplicateId(id(2)))
+    );
+    assert_eq!(
+        insert(&mut spare, lock(3, Scope::Ecu(5), &[], 1)),
+        Err(Refusal::DuplicateScope)
+    );
+    let mut child = lock(4, Scope::Ecu(7), &[7], 1);
+    child.parent = Some(id(1));
+    assert_eq!(
+        insert(&mut spare, child),
+        Err(Refusal::ParentNotVehicle(id(1)))
+    );
+    assert_eq!(insert(&mut spare, vehicle(8, 3)), Ok(Done::Done));
+    child.parent = Some(id(8));
+    assert_eq!(
+        insert(&mut spare, child),
+        Err(Refusal::Invariant(Reason::Owner {
+            child: id(4),
+            parent: id(8)
+        }))
+    );
+    assert_eq!(spare.active_count(), 3);
+    assert_eq!(spare.vehicle_lock_owner_sub(), Some(3));
+}
+
+#[test]
+fn renewal_and_expiration() {
+    let renew = |now, expires| Operation::Renew {
+        id: id(1),
+        expires,
+        now,
+        metadata: Some(7),
+    };
+    let begin = |now| Operation::BeginExpiration { id: id(1), now };
+    let mut spare = a();
+    assert_eq!(
+        perform(&mut spare, renew(100, 200)).answer,
+        Err(Refusal::LockExpired)
+    );
+    assert_eq!(
+        perform(&mut spare, renew(99, 100)).answer,
+        Err(Refusal::RenewalNotExtension)
+    );
+    assert_eq!(
+        perform(&mut spare, begin(99)).answer,
+        Ok(Done::NotDue { expires: 100 })
+    );
+    assert_eq!(perform(&mut spare, renew(99, 101)).answer, Ok(Done::Done));
+    assert_eq!(spare.active_by_id(id(1)).unwrap().lock.metadata, 7);
+    let step = perform(&mut spare, begin(101));
+    assert_eq!((step.answer, step.removed.len()), (Ok(Done::Done), 1));
+    assert_eq!(perform(&mut spare, begin(101)).answer, Ok(Done::Stale));
+}
+
+#[test]
+fn replacement_and_defunct_locks() {
+    let mut spare = a();
+    let new = lock(2, Scope::Ecu(5), &[5], 2);
+    let step = perform(
+        &mut spare,
+        Operation::CommitReplacement {
+            roots: vec![id(1)],
+            lock: new,
+            broken_by: 9,
+            broken_at: 50,
+        },
+    );
+    assert_eq!(step.answer, Ok(Done::Done));
+    assert_eq!(step.removed, [lock(1, Scope::Ecu(5), &[5], 1)]);
+    let broken = spare.defunct_by_id(id(1)).unwrap();
+    assert_eq!((broken.replacement, broken.holder), (id(2), 2));
+    assert_eq!((broken.broken_by, broken.broken_at), (9, 50));
+    let holder = spare.current_holder(&broken);
+    assert_eq!((holder.subject, holder.links), (2, 0));
+    assert_eq!(spare.defunct_at(0), Some(broken));
+    assert_eq!(spare.defuncts().collect::<Vec<_>>(), [broken]);
+    assert_eq!(
+        spare.uncovered_defunct(1, Scope::Ecu(6), Coverage::of(&[5, 6]), 0),
+        None
+    );
+    assert_eq!(
+        spare.uncovered_defunct(1, Scope::Ecu(5), Coverage::of(&[]), 0),
+        None
+    );
+
+    // Dropped directly: the wrong scope, another subject, then its owner. The number stays.
+    let before = spare.expected();
+    assert_eq!(spare.delete_defunct(id(1), Scope::Ecu(6), 1), Ok(false));
+    assert_eq!(
+        spare.delete_defunct(id(1), Scope::Ecu(5), 2),
+        Err(Refusal::Forbidden)
+    );
+    let mut other = spare.clone();
+    assert_eq!(spare.delete_defunct(id(1), Scope::Ecu(5), 1), Ok(true));
+    assert_eq!((spare.expected(), spare.defunct_count()), (before, 0));
+
+    // And through the feed.
+    let step = perform(&mut other, Operation::AcknowledgeDefunct { id: id(1) });
+    assert_eq!(step.answer, Ok(Done::Done));
+    let step = perform(&mut other, Operation::AcknowledgeDefunct { id: id(1) });
+    assert_eq!(step.answer, Ok(Done::Absent));
+    assert_eq!(other.revision(), spare.revision());
+}
+
+#[test]
+fn expired_defunct_locks_are_named() {
+    let mut spare = a();
+    let roots = vec![id(1)];
+    let lock = lock(2, Scope::Ecu(5), &[5], 2);
+    perform(
+        &mut spare,
+        Operation::CommitReplacement {
+            roots,
+            lock,
+            broken_by: 0,
+            broken_at: 0,
+        },
+    );
+    let step = perform(&mut spare, Operation::ExpireDefunct { now: 99 });
+    assert_eq!((step.answer, step.expired), (Ok(Done::Done), vec![]));
+    let step = perform(&mut spare, Operation::ExpireDefunct { now: 100 });
+    assert_eq!((step.answer, step.expired), (Ok(Done::Done), vec![id(1)]));
+}
+
+#[test]
+fn the_tree_goes_children_first() {
+    let mut spare = Spare::empty();
+    let ecu = lock(3, Scope::Ecu(5), &[5], 1);
+    let group = lock(1, Scope::FunctionalGroup(3), &[5, 6], 1);
+    insert(&mut spare, ecu).unwrap();
+    insert(&mut spare, group).unwrap();
+    assert_eq!(spare.covered_narrow_locks(&group), [id(3)]);
+    assert_eq!(spare.covering_functional_group(1, 6), Some(group));
+    let step = perform(
+        &mut spare,
+        Operation::InsertVehicle {
+            lock: vehicle(2, 1),
+            children: vec![id(1), id(1)],
+        },
+    );
+    assert_eq!(step.answer, Ok(Done::Done));
+    assert!(spare.has_non_vehicle_locks());
+    let step = perform(
+        &mut spare,
+        Operation::CommitReplacement {
+            roots: vec![id(2), id(1)],
+            lock: lock(4, Scope::Ecu(5), &[5], 1),
+            broken_by: 0,
+            broken_at: 0,
+        },
+    );
+    let gone: Vec<u128> = step.removed.iter().map(|a| a.lock.id.as_u128()).collect();
+    assert_eq!((step.answer, gone), (Ok(Done::Done), vec![3, 1, 2]));
+}
+
+#[test]
+fn a_runtime_update_waits_for_locks() {
+    let mut spare = Spare::empty();
+    assert_eq!(spare.prepare_runtime_update(4), Ok(5));
+    assert_eq!(spare.prepare_runtime_update(u64::MAX), Ok(u64::MAX));
+    insert(&mut spare, lock(1, Scope::Ecu(5), &[5], 1)).unwrap();
+    assert_eq!(spare.prepare_runtime_update(4), Err(Refusal::EcuLocksHeld));
+    insert(&mut spare, lock(2, Scope::FunctionalGroup(1), &[6], 1)).unwrap();
+    assert_eq!(
+        spare.prepare_runtime_update(4),
+        Err(Refusal::FunctionalGroupLocksHeld)
+    );
+}
+
+#[test]
+fn tester_present() {
+    use cablegorse::TesterPresent::{Ecu, Functional};
+    let mut spare = a();
+    assert_eq!(spare.tester_present_for(1, Scope::Ecu(5)), Some(Ecu(5)));
+    assert_eq!(spare.tester_present_for(1, Scope::Vehicle), None);
+    assert!(spare.tester_present_needed(Ecu(5)) && !spare.tester_present_needed(Ecu(6)));
+    insert(&mut spare, lock(2, Scope::FunctionalGroup(3), &[5], 1)).unwrap();
+    assert_eq!(spare.tester_present_for(1, Scope::Ecu(5)), None);
+    assert!(!spare.tester_present_needed(Ecu(5)) && spare.tester_present_needed(Functional(3)));
+}
+
+#[test]
+fn out_of_turn_is_never_applied() {
+    let mut primary = a();
+    let (record, _) = primary
+        .perform(&Operation::Delete { id: id(1) })
+        .expect("few ids");
+    let mut spare = Spare::empty();
+    let image = spare.image().to_vec();
+    let step = spare.apply(&record, 0);
+    assert_eq!(step.answer, Err(Refusal::Ahead { expected: 0 }));
+    assert_eq!((step.applied, step.sequence, step.place), (false, 1, 24));
+    assert_eq!(spare.image(), image);
+    let step = primary.apply(&record, 0);
+    assert_eq!(step.answer, Err(Refusal::Repeat { expected: 2 }));
+}
+
+#[test]
+fn images_are_tested() {
+    let image = a().image().to_vec();
+    assert_eq!(Spare::from_image(&image).unwrap().image(), image);
+    assert_eq!(
+        Spare::from_image(&image[..40]).unwrap_err(),
+        Refusal::Torn { offset: 20 }
+    );
+    assert_eq!(
+        Spare::from_image(&[]).unwrap_err(),
+        Refusal::Torn { offset: 0 }
+    );
+    let with = |at: usize, byte: u8| {
+        let mut image = image.clone();
+        image[at] = byte;
+        Spare::from_image(&image).map(|_| ())
+    };
+    assert_eq!(with(2, 9), Err(Refusal::BadKind { offset: 0 }));
+    assert_eq!(with(20 + 4 + 16, 3), Err(Refusal::BadField { offset: 20 }));
+    // A parent that isn't active breaks rule 3.
+    let parent = 20 + 4 + 62 + 8;
+    assert_eq!(with(parent, 1), Err(Refusal::UnsoundState { rule: 3 }));
+    let mut long = image.clone();
+    long.push(0);
+    assert_eq!(
+        Spare::from_image(&long).unwrap_err(),
+        Refusal::BadOrder { offset: 111 }
+    );
+}
+
+#[test]
+fn the_number_wraps() {
+    let mut image = Spare::empty().image().to_vec();
+    image[12..16].copy_from_slice(&u32::MAX.to_le_bytes());
+    let mut spare = Spare::from_image(&image).unwrap();
+    assert_eq!(spare.expected(), u32::MAX);
+    assert_eq!(
+        insert(&mut spare, lock(1, Scope::Ecu(5), &[5], 1)),
+        Ok(Done::Done)
+    );
+    assert_eq!(spare.expected(), 0);
+}
+
+#[test]
+fn at_the_last_revision_entries_go_all_the_same() {
+    let mut spare = a();
+    perform(
+        &mut spare,
+        Operation::CommitReplacement {
+            roots: vec![id(1)],
+            lock: lock(2, Scope::Ecu(5), &[5], 2),
+            broken_by: 0,
+            broken_at: 0,
+        },
+    );
+    let mut image = spare.image().to_vec();
+    image[4..12].copy_from_slice(&u64::MAX.to_le_bytes());
+    let mut spare = Spare::from_image(&image).unwrap();
+    let mut other = spare.clone();
+    let refused = perform(&mut spare, Operation::AcknowledgeDefunct { id: id(1) });
+    assert_eq!(refused.answer, Err(Refusal::RevisionOverflow));
+    assert_eq!((spare.defunct_count(), spare.revision()), (0, u64::MAX));
+    assert_eq!(
+        other.delete_defunct(id(1), Scope::Ecu(5), 1),
+        Err(Refusal::RevisionOverflow)
+    );
+    assert_eq!((other.defunct_count(), other.revision()), (0, u64::MAX));
+}
+
+#[test]
+fn a_short_buffer_is_told_and_left() {
+    let spare = a();
+    let record = Operation::Delete { id: id(1) }.record(1).unwrap();
+    for (next, removed) in [(19, 91), (20, 90), (0, 0)] {
+        let (mut next, mut removed) = (vec![7; next], vec![7; removed]);
+        let applied = library::apply(spare.image(), &record, 0, &mut next, &mut removed, &mut []);
+        assert_eq!((applied.part, applied.told.number), (3, 21));
+        assert_eq!(applied.told.values, [20, 91, 0, 0, 0]);
+        assert!(next.iter().chain(&removed).all(|byte| *byte == 7));
+    }
+}
+
+#[test]
+fn response_classes() {
+    let class = |number| response_class(number);
+    for number in 0..64 {
+        let due = match number {
+            10 => Some(ResponseClass::BadRequest),
+            2 | 6 | 7 | 9 => Some(ResponseClass::Conflict),
+            1 | 3 | 4 | 5 | 8 | 11 => Some(ResponseClass::InternalServerError),
+            26 => Some(ResponseClass::Forbidden),
+            _ => None,
+        };
+        assert_eq!(class(number), due, "{number}");
+    }
+    assert_eq!(
+        Refusal::RenewalNotExtension.response_class(),
+        Some(ResponseClass::BadRequest)
+    );
+}
