@@ -3,13 +3,27 @@
 use mathlib.Core.List.{List, [], _∷_}
 use mathlib.Core.Path.{_≡_, refl}
 use Prim.Native.Nat.{ℕ}
-use Rattle.operations.specs.Answers.{Paper}
-use Rattle.operations.proofs.Papers.{pick, one-to-one, valueAt}
+use Rattle.lookups.specs.Papers.{Paper}
+use Rattle.lookups.proofs.Papers.{pick, one-to-one, valueAt}
+use Rattle.locks.specs.declared.Owner.{Owner}
+use Rattle.locks.specs.declared.Owner.the-variants as owner
 use Rattle.locks.specs.declared.Update.{Update}
 use Rattle.locks.specs.declared.Update.the-variants as update
 use Rattle.locks.specs.declared.Dropping.{Dropping}
 use Rattle.locks.specs.declared.Dropping.the-variants as dropping
-use Rattle.locks.specs.Locks.{updatePaper, droppingPaper}
+use Rattle.locks.specs.Locks.{ownerPaper, updatePaper, droppingPaper}
+
+ownerOf : Paper → Owner
+ownerOf p = pick (p .number) ((12, owner.UnsoundState (valueAt p 0)) ∷ []) (pick (valueAt p 0) ((0, owner.Nothing) ∷ []) (owner.Subject (valueAt p 1)))
+
+owner-back : (a : Owner) → ownerOf (ownerPaper a) ≡ a
+unfolding ownerOf ownerPaper
+owner-back (owner.UnsoundState n) = refl
+owner-back owner.Nothing = refl
+owner-back (owner.Subject u) = refl
+
+pub owner-one : (a b : Owner) → ownerPaper a ≡ ownerPaper b → a ≡ b
+owner-one = one-to-one ownerPaper ownerOf owner-back
 
 updateOf : Paper → Update
 updateOf p = pick (p .number) ((12, update.UnsoundState (valueAt p 0)) ∷ (25, update.FunctionalGroupLocksHeld) ∷ (24, update.EcuLocksHeld) ∷ []) (update.Generation (valueAt p 0))

@@ -16,11 +16,11 @@ use Rattle.state.specs.Locks.{isVehicle, isGroup, sameScope, hasIdD}
 use Rattle.state.specs.Model.{modelOf}
 use Rattle.lookups.specs.declared.Truth.{Truth}
 use Rattle.lookups.specs.declared.Truth.the-variants as truth
+use Rattle.lookups.specs.Papers.{Paper, paper}
 use Rattle.lookups.specs.Reads.{onSound, onScope}
 use Rattle.operations.specs.declared.answers.Acknowledgement.{Acknowledgement}
 use Rattle.operations.specs.declared.answers.Acknowledgement.the-variants as acknowledgement
 use Rattle.operations.specs.declared.answers.Acknowledged.{Acknowledged}
-use Rattle.operations.specs.Answers.{Paper, paper}
 use Rattle.operations.specs.Acknowledge.{acknowledgeOn}
 use Rattle.locks.specs.declared.Response.{Response}
 use Rattle.locks.specs.declared.Response.the-variants as response
@@ -50,6 +50,12 @@ toldOwner (some a) = owner.Subject (a .lock .subject)
 
 unfoldable pub vehicleOwnerOn : LockState → Owner
 vehicleOwnerOn s = onSound s owner.UnsoundState (toldOwner (find (onScope Vehicle) (modelOf s .active)))
+
+-- nobody, or the subject
+unfoldable pub ownerPaper : Owner → Paper
+ownerPaper (owner.UnsoundState n) = paper 12 (n ∷ [])
+ownerPaper owner.Nothing = paper 0 (0 ∷ [])
+ownerPaper (owner.Subject u) = paper 0 (1 ∷ (u ∷ []))
 
 unfoldable pub nonVehicle : ActiveLock → Bool
 nonVehicle a = non (isVehicle (a .lock .scope))

@@ -3,3 +3,4 @@ pub mod Verdicts
 pub mod Presents
 pub mod Walk
 pub mod Visits
+pub mod Papers

@@ -169,35 +169,3 @@ holderOf m d = walk (suc (length (m .defunct))) m (key (d .target)) (d .holder) 
 
 unfoldable pub currentHolderOn : LockState → DefunctLock → Holder
 currentHolderOn s d = onSound s holder.UnsoundState (holder.Held (holderOf (modelOf s) d .subject) (holderOf (modelOf s) d .links))
-
--- ---- document 01's number of each answer: 12 UnsoundState, whose datum is the rule; else 0
-unfoldable pub foundActiveNumber : FoundActive → ℕ
-foundActiveNumber (active.UnsoundState n) = 12
-foundActiveNumber active.Nothing = 0
-foundActiveNumber (active.Lock a) = 0
-
-unfoldable pub foundDefunctNumber : FoundDefunct → ℕ
-foundDefunctNumber (defunct.UnsoundState n) = 12
-foundDefunctNumber defunct.Nothing = 0
-foundDefunctNumber (defunct.Lock d) = 0
-
-unfoldable pub revisionNumber : Revision → ℕ
-revisionNumber (revision.UnsoundState n) = 12
-revisionNumber (revision.At r) = 0
-
-unfoldable pub truthNumber : Truth → ℕ
-truthNumber (truth.UnsoundState n) = 12
-truthNumber (truth.Is b) = 0
-
-unfoldable pub listedNumber : Listed → ℕ
-listedNumber (listed.UnsoundState n) = 12
-listedNumber (listed.Ids n) = 0
-
-unfoldable pub neededNumber : Needed → ℕ
-neededNumber (needed.UnsoundState n) = 12
-neededNumber needed.Nothing = 0
-neededNumber (needed.Present t) = 0
-
-unfoldable pub holderNumber : Holder → ℕ
-holderNumber (holder.UnsoundState n) = 12
-holderNumber (holder.Held h c) = 0

@@ -1,12 +1,9 @@
 -- No two answers have one paper: from document 01's number and values the answer is read back.
 -- Assumes nothing.
-use mathlib.Core.Bool.{cond}
 use mathlib.Core.List.{List, [], _∷_}
-use mathlib.Core.Path.{_≡_, refl, sym, ap, _∙_}
-use Prim.Native.Nat.{ℕ, _+_}
-use lib.Dec.{eqb}
-use lib.ListN.{getD}
-use Rattle.ids.specs.declared.LockId.{LockId}
+use mathlib.Core.Path.{_≡_, refl}
+use Prim.Native.Nat.{ℕ}
+use Rattle.lookups.proofs.Papers.{pick, one-to-one, valueAt, idAt}
 use Rattle.operations.specs.declared.answers.Answer.{Answer}
 use Rattle.operations.specs.declared.answers.Answer.the-variants.{Done, DuplicateId, DuplicateScope, ActiveLockNotFound, ParentNotFound, ParentNotVehicle, ReplacementScopeConflict, CoverageConflict, RevisionOverflow, NotRootVehicle, BadChild, OtherOwner, NotCovered, Invariant, UnsoundState, NoRoom, BadList}
 use Rattle.operations.specs.declared.answers.Renewal.{Renewal}
@@ -19,23 +16,8 @@ use Rattle.operations.specs.declared.answers.Acknowledgement.{Acknowledg
 use Rattle.operations.specs.declared.answers.Acknowledgement.the-variants as acknowledgement
 use Rattle.operations.specs.declared.answers.DefunctExpiry.{DefunctExpiry}
 use Rattle.operations.specs.declared.answers.DefunctExpiry.the-variants as expiry
-use Rattle.operations.specs.Answers.{Paper, paperOf, renewalPaper, deletionPaper, expirationPaper, acknowledgementPaper, expiryPaper}
-
--- ---- reading a paper: what stands beside a number in a table, and the values by their places
-module _ {A : Type 0} where
-  abbrev pub pick : ℕ → List (ℕ × A) → A → A
-  pick n [] a = a
-  pick n (r ∷ rs) a = cond (eqb n (r .0)) (r .1) (pick n rs a)
-
-  -- what can be read back is one-to-one
-  pub one-to-one : (f : A → Paper) (g : Paper → A) → ((a : A) → g (f a) ≡ a) → (a b : A) → f a ≡ f b → a ≡ b
-  one-to-one f g h a b e = sym (h a) ∙ ap g e ∙ h b
-
-abbrev pub valueAt : Paper → ℕ → ℕ
-valueAt p k = getD (p .values) k 0
-
-abbrev pub idAt : Paper → ℕ → LockId
-idAt p k = record { hi = valueAt p k; lo = valueAt p (k + 1) }
+use Rattle.lookups.specs.Papers.{Paper}
+use Rattle.operations.specs.Answers.{paperOf, renewalPaper, deletionPaper, expirationPaper, acknowledgementPaper, expiryPaper}
 
 -- ---- insertions and replacement
 answerOf : Paper → Answer

@@ -3,6 +3,7 @@ use mathlib.Core.Bool.{Bool, true, false, cond}
 use mathlib.Core.List.{List, [], _∷_}
 use Prim.Native.Nat.{ℕ}
 use Rattle.ids.specs.declared.LockId.{LockId}
+use Rattle.lookups.specs.Papers.{Paper, paper, idValues}
 use Rattle.operations.specs.declared.answers.Answer.{Answer}
 use Rattle.operations.specs.declared.answers.Answer.the-variants.{Done, DuplicateId, DuplicateScope, ActiveLockNotFound, ParentNotFound, ParentNotVehicle, ReplacementScopeConflict, CoverageConflict, RevisionOverflow, NotRootVehicle, BadChild, OtherOwner, NotCovered, Invariant, UnsoundState, NoRoom, BadList}
 use Rattle.operations.specs.declared.answers.Renewal.{Renewal}
@@ -15,17 +16,6 @@ use Rattle.operations.specs.declared.answers.Acknowledgement.{Acknowledg
 use Rattle.operations.specs.declared.answers.Acknowledgement.the-variants as acknowledgement
 use Rattle.operations.specs.declared.answers.DefunctExpiry.{DefunctExpiry}
 use Rattle.operations.specs.declared.answers.DefunctExpiry.the-variants as expiry
-
--- ---- document 01's number, and the values beside it; an id is its two halves
-pub record Paper : Type 0 where
-  pub number : ℕ
-  pub values : List ℕ
-
-abbrev pub paper : ℕ → List ℕ → Paper
-paper n vs = record { number = n; values = vs }
-
-abbrev pub idValues : LockId → List ℕ → List ℕ
-idValues i vs = i .hi ∷ (i .lo ∷ vs)
 
 -- 11 Invariant's reason stands first: "1 no root vehicle; 2 bad child, its id; 3 owner, 4 coverage: child's and parent's
 -- id"; the closing check's has none there and is given 0

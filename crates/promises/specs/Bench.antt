@@ -20,7 +20,8 @@ use Rattle.state.specs.declared.DefunctLock.{DefunctLock}
 use Rattle.state.specs.declared.LockState.{LockState}
 use Rattle.state.specs.Locks.{akey, dkey}
 use Rattle.state.specs.Model.{emptyModel, modelOf, stateOf}
-use Rattle.operations.specs.Answers.{Paper, paper, paperOf, renewalPaper, deletionPaper, expirationPaper, acknowledgementPaper, expiryPaper}
+use Rattle.lookups.specs.Papers.{Paper, paper}
+use Rattle.operations.specs.Answers.{paperOf, renewalPaper, deletionPaper, expirationPaper, acknowledgementPaper, expiryPaper}
 use Rattle.operations.specs.Insert.{insertActiveOn}
 use Rattle.operations.specs.Vehicle.{insertVehicleOn}
 use Rattle.operations.specs.Renew.{renewOn}

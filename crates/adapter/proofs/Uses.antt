@@ -1,0 +1,47 @@
+-- The operations as the adapter uses them: each with what is handed on beside the state, and the definition that is its contract. Assumes nothing.
+use mathlib.Core.List.{[], _∷_}
+use mir.Syntax.{w16, w32, w64}
+use denote.Builtin.{u8, u64}
+use denote.Ref.{now}
+use Rattle.operations.specs.Insert.{insertActiveOn}
+use Rattle.operations.specs.Vehicle.{insertVehicleOn}
+use Rattle.operations.specs.Renew.{renewOn}
+use Rattle.operations.specs.Delete.{deleteOn, beginExpirationOn}
+use Rattle.operations.specs.Replace.{commitReplacementOn}
+use Rattle.operations.specs.Acknowledge.{acknowledgeOn, expireDefunctOn}
+use Rattle.locks.specs.Locks.{deleteDefunctOn}
+use Rattle.feed.specs.Feed.{stepOn}
+use Rattle.adapter.proofs.Data.{of-uint, of-bool}
+use Rattle.adapter.proofs.Args.{plain-par, slice-par}
+use Rattle.adapter.proofs.Types.{state, active-lock, lock-id, scope-key, answer, inserted, renewal, renewed, removal, deleted, lapse, expired, replacement, replaced, acknowledgement, acknowledged, shed, defuncts-expired, dropping, dropped, spare, told, stepped}
+use Rattle.adapter.proofs.Use.{Use}
+
+abbrev pub insert-active : Use
+insert-active = record { m = 0; Ps = plain-par 0 active-lock ∷ []; T = state; S = answer; O = inserted; F = λ h x. insertActiveOn h (x .0) }
+
+abbrev pub insert-vehicle : Use
+insert-vehicle = record { m = 1; Ps = plain-par 1 active-lock ∷ slice-par 1 0 tt u64 ∷ []; T = state; S = answer; O = inserted; F = λ h x. insertVehicleOn h (x .0) (now (x .1 .0)) }
+
+abbrev pub renew : Use
+renew = record { m = 0; Ps = plain-par 0 lock-id ∷ plain-par 0 (of-uint w64) ∷ plain-par 0 (of-uint w64) ∷ plain-par 0 of-bool ∷ plain-par 0 (of-uint w32) ∷ []; T = state; S = renewal; O = renewed; F = λ h x. renewOn h (x .0) (x .1 .0) (x .1 .1 .0) (x .1 .1 .1 .0) (x .1 .1 .1 .1 .0) }
+
+abbrev pub delete : Use
+delete = record { m = 0; Ps = plain-par 0 lock-id ∷ []; T = state; S = removal; O = deleted; F = λ h x. deleteOn h (x .0) }
+
+abbrev pub begin-expiration : Use
+begin-expiration = record { m = 0; Ps = plain-par 0 lock-id ∷ plain-par 0 (of-uint w64) ∷ []; T = state; S = lapse; O = expired; F = λ h x. beginExpirationOn h (x .0) (x .1 .0) }
+
+abbrev pub commit-replacement : Use
+commit-replacement = record { m = 1; Ps = slice-par 1 0 tt u64 ∷ plain-par 1 active-lock ∷ plain-par 1 (of-uint w32) ∷ plain-par 1 (of-uint w64) ∷ []; T = state; S = replacement; O = replaced; F = λ h x. commitReplacementOn h (now (x .0)) (x .1 .0) (x .1 .1 .0) (x .1 .1 .1 .0) }
+
+abbrev pub acknowledge-defunct : Use
+acknowledge-defunct = record { m = 0; Ps = plain-par 0 lock-id ∷ []; T = state; S = acknowledgement; O = acknowledged; F = λ h x. acknowledgeOn h (x .0) }
+
+abbrev pub expire-defunct : Use
+expire-defunct = record { m = 0; Ps = plain-par 0 (of-uint w64) ∷ []; T = state; S = shed; O = defuncts-expired; F = λ h x. expireDefunctOn h (x .0) }
+
+abbrev pub delete-defunct : Use
+delete-defunct = record { m = 0; Ps = plain-par 0 lock-id ∷ plain-par 0 scope-key ∷ plain-par 0 (of-uint w16) ∷ []; T = state; S = dropping; O = dropped; F = λ h x. deleteDefunctOn h (x .0) (x .1 .0) (x .1 .1 .0) }
+
+abbrev pub step : Use
+step = record { m = 1; Ps = slice-par 1 0 tt u8 ∷ plain-par 1 (of-uint w64) ∷ []; T = spare; S = told; O = stepped; F = λ h x. stepOn h (now (x .0)) (x .1 .0) }
