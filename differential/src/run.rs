@@ -338,6 +338,25 @@ impl Run {
         feed
     }
 
+    /// A feed for the program `replay`, which begins empty at number 0: records over a bad link,
+    /// now and then too many of them, or none.
+    #[must_use]
+    pub fn feed_from_empty(seed: u64) -> Vec<u8> {
+        let mut run = Self::new(seed);
+        let mut case = Case::of(&mut run.rng, Profile::Tiny);
+        case.state = State::default();
+        let mut feed = match run.rng.below(8) {
+            0 => Vec::new(),
+            1 => generate::feed(&mut run.rng, &case, 0, 60),
+            _ => run.through_a_link(&case, 0),
+        };
+        if !feed.is_empty() && run.rng.percent(3) {
+            let length = 65_535 + run.rng.below(3);
+            feed = feed.into_iter().cycle().take(length).collect();
+        }
+        feed
+    }
+
     /// Name tables: growing, full, damaged.
     fn tables(&mut self) {
         let folding = self.rng.percent(50);

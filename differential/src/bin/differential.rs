@@ -6,10 +6,12 @@
 //!                                              rich image; fails on an answer seldom seen
 //! differential block SEED                      one block of random states again
 //! differential tiny [STEP]                     every STEP-th state of the tiny universe
+//! differential replay PROGRAM [FEEDS] [SEED]   what the program prints, beside the judge
 
 use std::{
     env,
-    process::ExitCode,
+    io::Write,
+    process::{Command, ExitCode, Stdio},
     sync::{
         Mutex,
         atomic::{AtomicBool, AtomicU64, Ordering},
@@ -34,10 +36,13 @@ fn main() -> ExitCode {
     };
     let numbers = match words.first().map(String::as_str) {
         Some("block" | "tiny") => [number(1, 1), Some(0), Some(0)],
+        Some("replay") if words.len() > 1 => [number(2, 300), number(3, 1), Some(0)],
         _ => [number(0, 1_000_000), number(1, 1), number(2, 2)],
     };
     let [Some(first), Some(seed), Some(threads)] = numbers else {
-        eprintln!("differential [OPERATIONS] [SEED] [THREADS] | block SEED | tiny [STEP]");
+        eprintln!(
+            "differential [OPERATIONS] [SEED] [THREADS] | block SEED | tiny [STEP] | replay PROGRAM [FEEDS] [SEED]"
+        );
         return ExitCode::from(2);
     };
     match words.first().map(String::as_str) {
@@ -51,8 +56,50 @@ fn main() -> ExitCode {
             ExitCode::SUCCESS
         }
         Some("tiny") => tiny(first.max(1) as usize),
+        Some("replay") => match replay(&words[1], first, seed) {
+            Ok(lines) => {
+                println!("replay: {first} feeds, {lines} lines, no difference");
+                ExitCode::SUCCESS
+            }
+            Err(why) => {
+                eprintln!("{why}");
+                ExitCode::FAILURE
+            }
+        },
         _ => whole(first, seed, threads.max(1)),
     }
+}
+
+/// Runs the program on random feeds and compares what it prints; how many lines that were.
+fn replay(program: &str, feeds: u64, seed: u64) -> Result<usize, String> {
+    let mut lines = 0;
+    for place in 0..feeds {
+        let feed = Run::feed_from_empty(seed.wrapping_mul(1_000_000).wrapping_add(place));
+        let failed = |error: std::io::Error| format!("{program}: {error}");
+        let mut child = Command::new(program)
+            .stdin(Stdio::piped())
+            .stdout(Stdio::piped())
+            .spawn()
+            .map_err(failed)?;
+        let mut input = child.stdin.take().ok_or("no pipe")?;
+        // It may stop reading early; what it prints is what counts.
+        let bytes = feed.clone();
+        let writer = thread::spawn(move || {
+            let _ = input.write_all(&bytes);
+        });
+        let output = child.wait_with_output().map_err(failed)?;
+        let _ = writer.join();
+        let due = oracle::judge::replay(&feed);
+        if output.stdout != due.as_bytes() {
+            return Err(format!(
+                "DIFFERENCE in feed {place} of seed {seed}, {} bytes\nprogram:\n{}\njudge:\n{due}",
+                feed.len(),
+                String::from_utf8_lossy(&output.stdout)
+            ));
+        }
+        lines += due.lines().count();
+    }
+    Ok(lines)
 }
 
 /// Hands out places to threads until there are none left or one has failed.
