@@ -1,0 +1,67 @@
+// The static library's boundary: what Rust or C calls. Numbers, bools and lent bytes cross it, and nothing else.
+// SPDX-License-Identifier: Apache-2.0
+use image::read;
+ghost use mathlib.Core.Path.{_≡_};
+ghost use Rattle.exports.specs.Boundary.{classOf, testOf, prepareOf};
+
+mod papers;
+pub mod tables;
+
+// number: document 01's, 0 where nothing was refused. The first count of the values stand beside it; the others are 0.
+#[repr(C)]
+pub struct Told {
+    pub number: u32,
+    pub count: u32,
+    pub v0: u64,
+    pub v1: u64,
+    pub v2: u64,
+    pub v3: u64,
+    pub v4: u64,
+}
+
+// The response class of a refusal number: 0 none, 1 BadRequest, 2 Conflict, 3 InternalServerError, 4 Forbidden.
+#[no_mangle]
+pub extern "C" fn cablegorse_response_class(number: u64) -> u32
+    ensures { λ r. ⌜ r ≡ classOf number ⌝ }
+{
+    papers::of_response(locks::response_class(number))
+}
+
+// Whether the image can be read and its state is sound; then its revision, the expected number and both counts.
+#[no_mangle]
+pub extern "C" fn cablegorse_test(image: &[u8]) -> Told
+    ensures { λ r. ⌜ r ≡ testOf (now (image .entry)) ⌝ }
+{
+    let i = read::read_image(image);
+    let why = i.told;
+    let t = papers::of_reading(why);
+    if t.number != 0 {
+        return t;
+    }
+    let spare = i.spare;
+    let state = spare.state;
+    papers::four(
+        0,
+        state.revision,
+        spare.expected as u64,
+        state.actives as u64,
+        state.defuncts as u64,
+    )
+}
+
+// The generation after a runtime update, which the image doesn't hold; or the refusal.
+#[no_mangle]
+pub extern "C" fn cablegorse_prepare_runtime_update(image: &[u8], generation: u64) -> Told
+    ensures { λ r. ⌜ r ≡ prepareOf (now (image .entry)) generation ⌝ }
+{
+    let i = read::read_image(image);
+    let why = i.told;
+    let t = papers::of_reading(why);
+    if t.number != 0 {
+        return t;
+    }
+    let spare = i.spare;
+    let state = spare.state;
+    let u = locks::prepare_runtime_update(state, generation);
+    papers::of_update(u)
+}
