@@ -1,2 +1,4 @@
 pub mod Telling
 pub mod Boundary
+pub mod Questions
+pub mod Replies

@@ -4,7 +4,11 @@ use image::read;
 ghost use mathlib.Core.Path.{_≡_};
 ghost use Rattle.exports.specs.Boundary.{classOf, testOf, prepareOf};
 
+mod arguments;
 mod papers;
+mod putting;
+mod questions;
+pub mod reading;
 pub mod tables;
 
 // number: document 01's, 0 where nothing was refused. The first count of the values stand beside it; the others are 0.
