@@ -1,2 +1,5 @@
 pub mod Images
 pub mod Naming
+pub mod Ranges
+pub mod Asking
+pub mod Buffers

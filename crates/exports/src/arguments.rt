@@ -43,10 +43,10 @@ pub(crate) fn scope_in(kind: u64, number: u64) -> Scoped
 }
 
 // The ACTIVE record at the start; what follows it is not read.
-pub(crate) fn lock_in(record: &[u8]) -> LockGiven
-    ensures { λ r. ⌜ r ≡ lockGiven (now (record .entry)) ⌝ }
+pub(crate) fn lock_in(given: &[u8]) -> LockGiven
+    ensures { λ r. ⌜ r ≡ lockGiven (now (given .entry)) ⌝ }
 {
-    let got = reader::step_from(record, 0, Due::Active);
+    let got = reader::step_from(given, 0, Due::Active);
     let step = got.step;
     match step {
         Step::Active(a) => LockGiven::Lock(a),
@@ -57,10 +57,10 @@ pub(crate) fn lock_in(record: &[u8]) -> LockGiven
     }
 }
 
-pub(crate) fn entry_in(record: &[u8]) -> EntryGiven
-    ensures { λ r. ⌜ r ≡ entryGiven (now (record .entry)) ⌝ }
+pub(crate) fn entry_in(given: &[u8]) -> EntryGiven
+    ensures { λ r. ⌜ r ≡ entryGiven (now (given .entry)) ⌝ }
 {
-    let got = reader::step_from(record, 0, Due::Defunct);
+    let got = reader::step_from(given, 0, Due::Defunct);
     let step = got.step;
     match step {
         Step::Defunct(d) => EntryGiven::Entry(d),

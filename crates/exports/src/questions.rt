@@ -194,11 +194,11 @@ fn ask_scope(s: LockState, kind: u64, number: u64) -> Reply
     }
 }
 
-fn ask_narrow(s: LockState, record: &[u8]) -> Reply
-    ensures { λ r. ⌜ r ≡ narrowAsked s (now (record .entry)) ⌝ }
+fn ask_narrow(s: LockState, given: &[u8]) -> Reply
+    ensures { λ r. ⌜ r ≡ narrowAsked s (now (given .entry)) ⌝ }
 {
-    let given = arguments::lock_in(record);
-    match given {
+    let g = arguments::lock_in(given);
+    match g {
         LockGiven::Refused(t) => plain(t),
         LockGiven::Lock(a) => of_narrow(reads::covered_narrow_locks(s, a)),
     }
@@ -236,11 +236,11 @@ fn ask_needed(s: LockState, kind: u64, number: u64) -> Reply
     of_truth(reads::tester_present_needed(s, t))
 }
 
-fn ask_uncovered(s: LockState, record: &[u8], time: u64) -> Reply
-    ensures { λ r. ⌜ r ≡ uncoveredAsked s (now (record .entry)) time ⌝ }
+fn ask_uncovered(s: LockState, given: &[u8], time: u64) -> Reply
+    ensures { λ r. ⌜ r ≡ uncoveredAsked s (now (given .entry)) time ⌝ }
 {
-    let given = arguments::lock_in(record);
-    match given {
+    let g = arguments::lock_in(given);
+    match g {
         LockGiven::Refused(t) => plain(t),
         LockGiven::Lock(a) => {
             let l = a.lock;
@@ -251,18 +251,18 @@ fn ask_uncovered(s: LockState, record: &[u8], time: u64) -> Reply
     }
 }
 
-fn ask_holder(s: LockState, record: &[u8]) -> Reply
-    ensures { λ r. ⌜ r ≡ holderAsked s (now (record .entry)) ⌝ }
+fn ask_holder(s: LockState, given: &[u8]) -> Reply
+    ensures { λ r. ⌜ r ≡ holderAsked s (now (given .entry)) ⌝ }
 {
-    let given = arguments::entry_in(record);
-    match given {
+    let g = arguments::entry_in(given);
+    match g {
         EntryGiven::Refused(t) => plain(t),
         EntryGiven::Entry(d) => of_holder(reads::current_holder(s, d)),
     }
 }
 
-pub(crate) fn answer(s: LockState, question: u32, x: u64, y: u64, record: &[u8]) -> Reply
-    ensures { λ r. ⌜ r ≡ replyOn s question x y (now (record .entry)) ⌝ }
+pub(crate) fn answer(s: LockState, question: u32, x: u64, y: u64, given: &[u8]) -> Reply
+    ensures { λ r. ⌜ r ≡ replyOn s question x y (now (given .entry)) ⌝ }
 {
     match question {
         1 => of_revision(reads::revision(s)),
@@ -271,12 +271,12 @@ pub(crate) fn answer(s: LockState, question: u32, x: u64, y: u64, record: &[u8])
         4 => of_defunct(reads::defunct_by_id(s, LockId { hi: x, lo: y })),
         5 => of_active(reads::active_at(s, x as usize)),
         6 => of_defunct(reads::defunct_at(s, x as usize)),
-        7 => ask_narrow(s, record),
+        7 => ask_narrow(s, given),
         8 => ask_group(s, x, y),
         9 => ask_present(s, x, y),
         10 => ask_needed(s, x, y),
-        11 => ask_uncovered(s, record, x),
-        12 => ask_holder(s, record),
+        11 => ask_uncovered(s, given, x),
+        12 => ask_holder(s, given),
         13 => of_owner(locks::vehicle_lock_owner_sub(s)),
         14 => of_truth(locks::has_non_vehicle_locks(s)),
         _ => plain(papers::one(18, 0)),

@@ -64,10 +64,10 @@ pub extern "C" fn cablegorse_read(
     question: u32,
     x: u64,
     y: u64,
-    record: &[u8],
+    given: &[u8],
     out: &mut [u8],
 ) -> Told
-    ensures { λ r. ⌜ kept r (now (out .exit)) ≡ readOf (now (image .entry)) question x y (now (record .entry)) (now (out .entry)) ⌝ }
+    ensures { λ r. ⌜ kept r (now (out .exit)) ≡ readOf (now (image .entry)) question x y (now (given .entry)) (now (out .entry)) ⌝ }
 {
     let i = read::read_image(image);
     let why = i.told;
@@ -77,6 +77,6 @@ pub extern "C" fn cablegorse_read(
     }
     let spare = i.spare;
     let state = spare.state;
-    let r = questions::answer(state, question, x, y, record);
+    let r = questions::answer(state, question, x, y, given);
     put_reply(r, out)
 }
