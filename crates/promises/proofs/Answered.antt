@@ -29,81 +29,85 @@ use Rattle.operations.specs.Replace.{orphan, cutOf, replacedIn, judgeReplace}
 pub differ : {A : Type 0} (p : A → Bool) {a b : A} → No (p a) → Yes (p b) → a ≡ b → ⊥
 differ p f t e = against f (ap p e ∙ t)
 
--- an answer of none of the checks before 13
+-- an answer of none of the checks before 13; where odd is true 14 counts as one too
+abbrev pub foreignIf : Bool → Answer → Bool
+foreignIf odd Done = false
+foreignIf odd (DuplicateId i) = false
+foreignIf odd DuplicateScope = false
+foreignIf odd (ActiveLockNotFound i) = false
+foreignIf odd (ParentNotFound i) = false
+foreignIf odd (ParentNotVehicle i) = false
+foreignIf odd ReplacementScopeConflict = false
+foreignIf odd (CoverageConflict i) = false
+foreignIf odd RevisionOverflow = false
+foreignIf odd NotRootVehicle = false
+foreignIf odd (BadChild i) = false
+foreignIf odd (OtherOwner i j) = false
+foreignIf odd (NotCovered i j) = false
+foreignIf odd Invariant = true
+foreignIf odd (UnsoundState n) = true
+foreignIf odd NoRoom = true
+foreignIf odd BadList = odd
+
 abbrev pub foreign : Answer → Bool
-foreign Done = false
-foreign (DuplicateId i) = false
-foreign DuplicateScope = false
-foreign (ActiveLockNotFound i) = false
-foreign (ParentNotFound i) = false
-foreign (ParentNotVehicle i) = false
-foreign ReplacementScopeConflict = false
-foreign (CoverageConflict i) = false
-foreign RevisionOverflow = false
-foreign NotRootVehicle = false
-foreign (BadChild i) = false
-foreign (OtherOwner i j) = false
-foreign (NotCovered i j) = false
-foreign Invariant = true
-foreign (UnsoundState n) = true
-foreign NoRoom = true
-foreign BadList = false
+foreign = foreignIf false
 
 -- no check gives it
-if-not : (c : Bool) (a b : Answer) → No (foreign a) → No (foreign b) → No (foreign (cond c a b))
-if-not c a b f g = cond-both (λ (r : Answer). No (foreign r)) a b c (λ t. f) (λ t. g)
+module _ (odd : Bool) where
+  if-not : (c : Bool) (a b : Answer) → No (foreignIf odd a) → No (foreignIf odd b) → No (foreignIf odd (cond c a b))
+  if-not c a b f g = cond-both (λ (r : Answer). No (foreignIf odd r)) a b c (λ t. f) (λ t. g)
 
-refuse-not : (c : Bool) (a b : Answer) → No (foreign a) → No (foreign b) → No (foreign (refuseIf c a b))
-unfolding refuseIf
-refuse-not = if-not
+  refuse-not : (c : Bool) (a b : Answer) → No (foreignIf odd a) → No (foreignIf odd b) → No (foreignIf odd (refuseIf c a b))
+  unfolding refuseIf
+  refuse-not = if-not
 
-then-not : (a b : Answer) → No (foreign a) → No (foreign b) → No (foreign (andThen a b))
-unfolding andThen
-then-not a b f g = if-not (isDone a) b a g f
+  then-not : (a b : Answer) → No (foreignIf odd a) → No (foreignIf odd b) → No (foreignIf odd (andThen a b))
+  unfolding andThen
+  then-not a b f g = if-not (isDone a) b a g f
 
-nesting-not : (l : List ActiveLock) (x : ActiveLock) → No (foreign (checkNesting l x))
-unfolding checkNesting checkParent
-nesting-not l x = if-not (x .child) _ Done (go (find (hasId (x .parent)) l)) refl
-  where
-    go : (o : Option ActiveLock) → No (foreign (checkFound x o))
-    go none = refl
-    go (some p) = refuse-not _ _ _ refl (refuse-not _ _ _ refl (refuse-not _ _ _ refl refl))
+  nesting-not : (l : List ActiveLock) (x : ActiveLock) → No (foreignIf odd (checkNesting l x))
+  unfolding checkNesting checkParent
+  nesting-not l x = if-not (x .child) _ Done (go (find (hasId (x .parent)) l)) refl
+    where
+      go : (o : Option ActiveLock) → No (foreignIf odd (checkFound x o))
+      go none = refl
+      go (some p) = refuse-not _ _ _ refl (refuse-not _ _ _ refl (refuse-not _ _ _ refl refl))
 
-clear-not : (l : List ActiveLock) (x : ActiveLock) → No (foreign (checkClear l x))
-unfolding checkClear
-clear-not l x = go (find (conflicts x) l)
-  where
-    go : (o : Option ActiveLock) → No (foreign (checkConflict o))
-    go none = refl
-    go (some a) = refl
+  clear-not : (l : List ActiveLock) (x : ActiveLock) → No (foreignIf odd (checkClear l x))
+  unfolding checkClear
+  clear-not l x = go (find (conflicts x) l)
+    where
+      go : (o : Option ActiveLock) → No (foreignIf odd (checkConflict o))
+      go none = refl
+      go (some a) = refl
 
-insert-not : (l : List ActiveLock) (x : ActiveLock) → No (foreign (checkInsert l x))
-unfolding checkInsert checkScope
-insert-not l x = then-not _ _ (refuse-not _ _ _ refl refl) (then-not _ _ (nesting-not l x) (clear-not l x))
+  insert-not : (l : List ActiveLock) (x : ActiveLock) → No (foreignIf odd (checkInsert l x))
+  unfolding checkInsert checkScope
+  insert-not l x = then-not _ _ (refuse-not _ _ _ refl refl) (then-not _ _ (nesting-not l x) (clear-not l x))
 
-listed-not : (l : List ActiveLock) (ws : List ℕ) → No (foreign (checkListed l ws))
-unfolding checkListed
-listed-not l ws = go (lowestOf none (filter (unfitId l) (idsOf ws)))
-  where
-    go : (o : Option LockId) → No (foreign (toldListed l o))
-    go none = refl
-    go (some i) = if-not (missing l i) _ _ refl refl
+  listed-not : (l : List ActiveLock) (ws : List ℕ) → No (foreignIf odd (checkListed l ws))
+  unfolding checkListed
+  listed-not l ws = go (lowestOf none (filter (unfitId l) (idsOf ws)))
+    where
+      go : (o : Option LockId) → No (foreignIf odd (toldListed l o))
+      go none = refl
+      go (some i) = if-not (missing l i) _ _ refl refl
 
-children-not : (p : ActiveLock → Bool) (l : List ActiveLock) (x : ActiveLock) → No (foreign (checkChildren p l x))
-unfolding checkChildren
-children-not p l x = go (find (unfitChild p x) l)
-  where
-    go : (o : Option ActiveLock) → No (foreign (toldChild x o))
-    go none = refl
-    go (some a) = if-not (eqb (x .lock .subject) (a .lock .subject)) _ _ refl refl
+  children-not : (p : ActiveLock → Bool) (l : List ActiveLock) (x : ActiveLock) → No (foreignIf odd (checkChildren p l x))
+  unfolding checkChildren
+  children-not p l x = go (find (unfitChild p x) l)
+    where
+      go : (o : Option ActiveLock) → No (foreignIf odd (toldChild x o))
+      go none = refl
+      go (some a) = if-not (eqb (x .lock .subject) (a .lock .subject)) _ _ refl refl
 
-entry-not : (l : List ActiveLock) (t : List DefunctLock) (ws : List ℕ) (x : ActiveLock) → No (foreign (checkEntry l t ws x))
-unfolding checkEntry checkRoots checkId checkHolder
-entry-not l t ws x = then-not _ _ (go (lowestOf none (filter (missing l) (idsOf ws)))) (then-not _ _ (refuse-not _ _ _ refl refl) (refuse-not _ _ _ refl refl))
-  where
-    go : (o : Option LockId) → No (foreign (toldRoot o))
-    go none = refl
-    go (some i) = refl
+  entry-not : (l : List ActiveLock) (t : List DefunctLock) (ws : List ℕ) (x : ActiveLock) → No (foreignIf odd (checkEntry l t ws x))
+  unfolding checkEntry checkRoots checkId checkHolder
+  entry-not l t ws x = then-not _ _ (go (lowestOf none (filter (missing l) (idsOf ws)))) (then-not _ _ (refuse-not _ _ _ refl refl) (refuse-not _ _ _ refl refl))
+    where
+      go : (o : Option LockId) → No (foreignIf odd (toldRoot o))
+      go none = refl
+      go (some i) = refl
 
 -- ---- chains
 then-assoc : (a b c : Answer) → andThen a (andThen b c) ≡ andThen (andThen a b) c
@@ -141,28 +145,38 @@ module _ (m : Model) where
   unfolding judgeReplace
   replace-parts k ws x by at = simp then-assoc
 
-  id-not : (x : ActiveLock) → No (foreign (checkId (m .active) (m .defunct) x))
-  unfolding checkId
-  id-not x = refuse-not _ _ _ refl refl
+  module _ (odd : Bool) where
+    id-not : (x : ActiveLock) → No (foreignIf odd (checkId (m .active) (m .defunct) x))
+    unfolding checkId
+    id-not x = refuse-not odd _ _ _ refl refl
 
-  revision-not : No (foreign (checkRevision (m .revision)))
-  unfolding checkRevision
-  revision-not = refuse-not _ _ _ refl refl
+    revision-not : No (foreignIf odd (checkRevision (m .revision)))
+    unfolding checkRevision
+    revision-not = refuse-not odd _ _ _ refl refl
+
+    pub insert-own-if : (x : ActiveLock) → No (foreignIf odd (beforeInsert m x))
+    insert-own-if x = then-not odd _ _ (then-not odd _ _ (id-not x) (insert-not odd (m .active) x)) revision-not
+
+    pub vehicle-own-if : (x : ActiveLock) (ws : List ℕ) → No (foreignIf odd (checkList ws)) → No (foreignIf odd (beforeVehicle m x ws))
+    unfolding checkRoot checkScope
+    vehicle-own-if x ws h =
+        then-not odd _ _ (then-not odd _ _ (then-not odd _ _ (then-not odd _ _ (then-not odd _ _ (then-not odd _ _ h (refuse-not odd _ _ _ refl refl)) (listed-not odd (m .active) ws)) (id-not x)) (refuse-not odd _ _ _ refl refl)) revision-not)
+        (children-not odd (isListed ws) (m .active) x)
+
+    pub replace-own-if : (ws : List ℕ) (x : ActiveLock) → No (foreignIf odd (checkList ws)) → No (foreignIf odd (beforeReplace m ws x))
+    replace-own-if ws x h =
+        then-not odd _ _ (then-not odd _ _ (then-not odd _ _ (then-not odd _ _ h (entry-not odd (m .active) (m .defunct) ws x)) (insert-not odd (cutOf m ws .kept) x)) revision-not)
+        (children-not odd (orphan x) (cutOf m ws .kept) x)
 
   list-not : (ws : List ℕ) → No (foreign (checkList ws))
   unfolding checkList
-  list-not ws = refuse-not _ _ _ refl refl
+  list-not ws = refuse-not false _ _ _ refl refl
 
   pub insert-own : (x : ActiveLock) → No (foreign (beforeInsert m x))
-  insert-own x = then-not _ _ (then-not _ _ (id-not x) (insert-not (m .active) x)) revision-not
+  insert-own = insert-own-if false
 
   pub vehicle-own : (x : ActiveLock) (ws : List ℕ) → No (foreign (beforeVehicle m x ws))
-  unfolding checkRoot checkScope
-  vehicle-own x ws =
-      then-not _ _ (then-not _ _ (then-not _ _ (then-not _ _ (then-not _ _ (then-not _ _ (list-not ws) (refuse-not _ _ _ refl refl)) (listed-not (m .active) ws)) (id-not x)) (refuse-not _ _ _ refl refl)) revision-not)
-      (children-not (isListed ws) (m .active) x)
+  vehicle-own x ws = vehicle-own-if false x ws (list-not ws)
 
   pub replace-own : (ws : List ℕ) (x : ActiveLock) → No (foreign (beforeReplace m ws x))
-  replace-own ws x =
-      then-not _ _ (then-not _ _ (then-not _ _ (then-not _ _ (list-not ws) (entry-not (m .active) (m .defunct) ws x)) (insert-not (cutOf m ws .kept) x)) revision-not)
-      (children-not (orphan x) (cutOf m ws .kept) x)
+  replace-own ws x = replace-own-if false ws x (list-not ws)

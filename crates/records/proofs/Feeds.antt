@@ -78,7 +78,7 @@ fields-more (suc n) f s at =
     ∙ ap (λ (k : ℕ). fieldsAt (replicate n f) s (at + size f) ++ (field f s k ∷ []))
     (let z : at + size f + n * size f ≡ at + suc n * size f = omega (arith, suc-mul n (size f)) in z))
 
-length-words : (n : ℕ) (f : Field) (s : List ℕ) (at : ℕ) → length (fieldsAt (replicate n f) s at) ≡ n
+pub length-words : (n : ℕ) (f : Field) (s : List ℕ) (at : ℕ) → length (fieldsAt (replicate n f) s at) ≡ n
 length-words zero f s at = refl
 length-words (suc n) f s at = ap suc (length-words n f s (at + size f))
 

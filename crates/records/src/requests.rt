@@ -188,7 +188,8 @@ pub fn decode_request(kind: u16, s: &[u8]) -> Asked
     }
 }
 
-fn word_count(len: usize) -> usize
+// How many words `words_of` takes out of a part of len bytes.
+pub fn word_count(len: usize) -> usize
     ensures { λ r. ⌜ r ≡ min (len / 8) 128 ⌝ }
 {
     if len / 8 < 128 {

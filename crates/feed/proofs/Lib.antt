@@ -1,0 +1,5 @@
+pub mod Stepping
+pub mod Words
+pub mod Turning
+pub mod Moving
+pub mod Running
