@@ -3,3 +3,5 @@ pub mod Naming
 pub mod Ranges
 pub mod Asking
 pub mod Buffers
+pub mod Small
+pub mod Outputs

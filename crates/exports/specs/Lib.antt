@@ -2,3 +2,4 @@ pub mod Telling
 pub mod Boundary
 pub mod Questions
 pub mod Replies
+pub mod Changes

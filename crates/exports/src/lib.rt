@@ -5,6 +5,8 @@ ghost use mathlib.Core.Path.{_≡_};
 ghost use Rattle.exports.specs.Boundary.{classOf, testOf, prepareOf};
 
 mod arguments;
+pub mod changes;
+mod events;
 mod papers;
 mod putting;
 mod questions;
@@ -21,6 +23,26 @@ pub struct Told {
     pub v2: u64,
     pub v3: u64,
     pub v4: u64,
+}
+
+// As Told, and: part 0 the image was refused, 1 the record or an argument was, 2 applied, 3 an output is too short; the
+// record's sequence; where the next record starts; the bytes of the next image; how many locks were removed and how many
+// entries expired.
+#[repr(C)]
+pub struct Applied {
+    pub number: u32,
+    pub count: u32,
+    pub v0: u64,
+    pub v1: u64,
+    pub v2: u64,
+    pub v3: u64,
+    pub v4: u64,
+    pub part: u32,
+    pub sequence: u32,
+    pub place: u64,
+    pub written: u64,
+    pub gone: u64,
+    pub lapsed: u64,
 }
 
 // The response class of a refusal number: 0 none, 1 BadRequest, 2 Conflict, 3 InternalServerError, 4 Forbidden.

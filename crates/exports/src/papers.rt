@@ -2,14 +2,16 @@
 // SPDX-License-Identifier: Apache-2.0
 use crate::Told;
 use image::Reading;
+use locks::Dropping;
 use locks::Response;
 use locks::Update;
 use names::Named;
 ghost use mathlib.Core.Path.{_≡_};
 ghost use mathlib.Core.List.{[], _∷_};
 ghost use Rattle.operations.specs.Answers.{paper};
-ghost use Rattle.locks.specs.Locks.{updatePaper};
+ghost use Rattle.locks.specs.Locks.{updatePaper, droppingPaper};
 ghost use Rattle.exports.specs.Telling.{toldOf, readingTold, namedTold, classNumber};
+ghost use Rattle.exports.specs.Changes.{isGone};
 
 pub(crate) fn none(number: u32) -> Told
     ensures { λ r. ⌜ r ≡ toldOf (paper number []) ⌝ }
@@ -53,6 +55,20 @@ pub(crate) fn two(number: u32, a: u64, b: u64) -> Told
     }
 }
 
+pub(crate) fn three(number: u32, a: u64, b: u64, c: u64) -> Told
+    ensures { λ r. ⌜ r ≡ toldOf (paper number (a ∷ (b ∷ (c ∷ [])))) ⌝ }
+{
+    Told {
+        number,
+        count: 3,
+        v0: a,
+        v1: b,
+        v2: c,
+        v3: 0,
+        v4: 0,
+    }
+}
+
 pub(crate) fn four(number: u32, a: u64, b: u64, c: u64, d: u64) -> Told
     ensures { λ r. ⌜ r ≡ toldOf (paper number (a ∷ (b ∷ (c ∷ (d ∷ []))))) ⌝ }
 {
@@ -64,6 +80,20 @@ pub(crate) fn four(number: u32, a: u64, b: u64, c: u64, d: u64) -> Told
         v2: c,
         v3: d,
         v4: 0,
+    }
+}
+
+pub(crate) fn five(number: u32, a: u64, b: u64, c: u64, d: u64, e: u64) -> Told
+    ensures { λ r. ⌜ r ≡ toldOf (paper number (a ∷ (b ∷ (c ∷ (d ∷ (e ∷ [])))))) ⌝ }
+{
+    Told {
+        number,
+        count: 5,
+        v0: a,
+        v1: b,
+        v2: c,
+        v3: d,
+        v4: e,
     }
 }
 
@@ -112,5 +142,32 @@ pub(crate) fn of_named(n: Named) -> Told
         Named::NamesFull => none(23),
         Named::Known(k) => one(0, k as u64),
         Named::Learned(k) => one(0, k as u64),
+    }
+}
+
+pub(crate) fn of_dropping(d: Dropping) -> Told
+    ensures { λ r. ⌜ r ≡ toldOf (droppingPaper d) ⌝ }
+{
+    match d {
+        Dropping::Done => one(0, 1),
+        Dropping::Absent => one(0, 0),
+        Dropping::RevisionOverflow => none(8),
+        Dropping::Invariant => one(11, 0),
+        Dropping::UnsoundState(n) => one(12, n as u64),
+        Dropping::Forbidden => none(26),
+    }
+}
+
+// Whether the entry is gone: at the last revision too.
+pub(crate) fn is_gone(d: Dropping) -> bool
+    ensures { λ r. ⌜ r ≡ isGone d ⌝ }
+{
+    match d {
+        Dropping::Done => true,
+        Dropping::Absent => false,
+        Dropping::RevisionOverflow => true,
+        Dropping::Invariant => false,
+        Dropping::UnsoundState(_) => false,
+        Dropping::Forbidden => false,
     }
 }

@@ -31,3 +31,26 @@ pub(crate) fn store_narrow(out: &mut [u8], ids: [LockId; 64], n: usize)
     }
     put_narrow(out, ids, k);
 }
+
+fn put_expired(out: &mut [u8], ids: [LockId; 128], n: usize)
+    requires { ⌜ (n ≤ 128) × (n * 16 ≤ length (now out)) ⌝ }
+    ensures { λ r. ⌜ now (out .exit) ≡ splice (now (out .entry)) 0 (bytesOfAll idBytes (take n ids)) ⌝ }
+{
+    let mut i: usize = 0;
+    while i < n {
+        let id = ids[i];
+        writing::put_id(out, i * 16, id);
+        i += 1;
+    }
+}
+
+// The first n of a list of 128, from the buffer's start on. Where they have no room, nothing is stored.
+pub(crate) fn store_expired(out: &mut [u8], ids: [LockId; 128], n: usize)
+    ensures { λ r. ⌜ now (out .exit) ≡ stored (now (out .entry)) 0 (bytesOfAll idBytes (take n ids)) ⌝ }
+{
+    let k = write::at_most(n, 128);
+    if out.len() < k * 16 {
+        return;
+    }
+    put_expired(out, ids, k);
+}
