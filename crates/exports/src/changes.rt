@@ -63,13 +63,7 @@ fn written_of(w: Writing) -> u64
 }
 
 // All three outputs or none.
-fn put_step(
-    s: Step,
-    at: usize,
-    next: &mut [u8],
-    removed: &mut [u8],
-    expired: &mut [u8],
-) -> Applied
+fn put_step(s: Step, at: usize, next: &mut [u8], removed: &mut [u8], expired: &mut [u8]) -> Applied
     ensures { λ r. ⌜ changed r (now (next .exit)) (now (removed .exit)) (now (expired .exit)) ≡ stepPut at s (now (next .entry)) (now (removed .entry)) (now (expired .entry)) ⌝ }
 {
     let told = s.told;
@@ -92,7 +86,15 @@ fn put_step(
     let ids = told.ids;
     putting::store_expired(expired, ids, told.lapsed);
     let n = written_of(w);
-    applied(t, 2, told.sequence, told.next as u64, n, gone as u64, lapsed as u64)
+    applied(
+        t,
+        2,
+        told.sequence,
+        told.next as u64,
+        n,
+        gone as u64,
+        lapsed as u64,
+    )
 }
 
 // The record at a place of a feed, applied to the image's spare.

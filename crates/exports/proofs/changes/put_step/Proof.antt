@@ -1,3 +1,5 @@
+use Rattle.state.proofs.ActiveLock as A
+use Rattle.ids.proofs.LockId as I
 use mathlib.Core.Path.{_≡_, sym, ap, _∙_}
 use native.Mathlib.Omega.{arith}
 use denote.Ref.{now}
@@ -10,13 +12,13 @@ use Rattle.exports.proofs.changes.put_step.Tie as tie
 use Rattle.exports.proofs.changes.put_step.Reads as reads
 use Rattle.exports.proofs.changes.put_step.Lts as lts
 
-
 -- the counts that are stored
 locks-gone : (c : tie.After-at-most) → Capped (c .before .before .before .before .before .before .before .before .before .before .args .s .told .removed) (c .before .before .before .before .before .before .before .before .before .before .args .s .told .gone) 64 (c .at-most .result)
-locks-gone c = capped _ _ _ _ (search (needs, length-of-mapped)) (c .at-most .ensures)
+locks-gone c = capped _ _ _ _ (length-of-mapped _ _ (A.the-type .to) (c .before .before .before .before .before .before .before .before .before .before .args .s .told .removed) 64 (c .before .before .before .before .before .before .before .before .before .before .good .0 .1 .1 .0 .1 .1 .1 .1 .1 .1 .0 .1 .0 .1)) (c .at-most .ensures)
 
 ids-lapsed : (c : tie.After-at-most2) → Capped (c .before .before .before .before .before .before .before .before .before .before .before .args .s .told .ids) (c .before .before .before .before .before .before .before .before .before .before .before .args .s .told .lapsed) 128 (c .at-most2 .result)
-ids-lapsed c = capped _ _ _ _ (search (needs, length-of-mapped)) (c .at-most2 .ensures)
+ids-lapsed c = capped _ _ _ _ (length-of-mapped _ _ (I.the-type .to) (c .before .before .before .before .before .before .before .before .before .before .before .args .s .told .ids) 128 (c .before .before .before .before .before .before .before .before .before .before .before .good .0 .1 .1 .0 .1 .1 .1 .1 .1 .1 .1 .1 .0 .1 .0 .1)) (c .at-most2 .ensures)
+
 of-event-requires : tie.Need-of-event-requires
 of-event-requires c κs = search needs
 
