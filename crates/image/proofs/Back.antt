@@ -19,7 +19,7 @@ use Rattle.state.specs.declared.DefunctLock.{DefunctLock}
 use Rattle.state.specs.Model.{Model}
 use Rattle.records.specs.declared.kinds.Kind.{Kind}
 use Rattle.records.specs.declared.bodies.Head.{Head}
-use Rattle.records.specs.Numbers.{part}
+use Rattle.records.specs.Numbers.{part, bytesOfAll}
 use Rattle.records.specs.Layouts.{total}
 use Rattle.records.specs.Codecs.{Codec, decodeBy, encodeBy}
 use Rattle.records.specs.Table.{rows, atHead, atActive, atDefunct}
@@ -75,7 +75,7 @@ module _ {R : Type 0} (e : Listed R) (p : Plain (e .kind) (e .place) (e .codec))
     pub within : m ≤ length s
 
   pub run-back : (n low at : ℕ) (l : List R) (m : ℕ) → at ≤ length s → runAt e s n low at ≡ got l m → Run n at l m
-  unfolding bytesOfRun
+  unfolding bytesOfAll
   run-back zero low at l m h q =
       let z = none e s low at l m q in
       record {

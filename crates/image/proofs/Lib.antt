@@ -6,3 +6,4 @@ pub mod There
 pub mod Back
 pub mod Trips
 pub mod Ranged
+pub mod Stores

@@ -20,7 +20,7 @@ use Rattle.state.specs.Model.{Model}
 use Rattle.records.specs.declared.frame.Framed.{Framed}
 use Rattle.records.specs.declared.frame.Framed.the-variants as F
 use Rattle.records.specs.declared.bodies.Head.{Head}
-use Rattle.records.specs.Numbers.{part}
+use Rattle.records.specs.Numbers.{part, bytesOfAll}
 use Rattle.records.specs.Layouts.{total}
 use Rattle.records.specs.Codecs.{Codec, decodeBy, encodeBy}
 use Rattle.records.specs.Table.{possible, atHead}
@@ -61,7 +61,7 @@ module _ {R : Type 0} (e : Listed R) (p : Plain (e .kind) (e .place) (e .codec))
 
   pub run-there : (l : List R) (low : ℕ) → ((r : R) → Mem r l → Well (e .codec) r) → Yes (from (e .id) low l) → (pre post : List ℕ) (at : ℕ) → length pre ≡ at
       → runAt e (pre ++ (bytesOfRun e l ++ post)) (length l) low at ≡ got l (at + length l * (total (e .codec .layout) + 4))
-  unfolding runAt bytesOfRun andThen
+  unfolding runAt bytesOfAll andThen
   run-there [] low w t pre post at q = ap (got []) (let z : at ≡ at + 0 * (total (e .codec .layout) + 4) = omega arith in z)
   run-there (r ∷ rs) low w t pre post at q =
       let one : List ℕ = bytesOfOne e r in

@@ -4,15 +4,12 @@ use mathlib.Core.Path.{_≡_, refl, sym, ap, ap₂, _∙_}
 use mathlib.Core.Bool.{Bool, true, false, cond}
 use mathlib.Core.List.{List, [], _∷_, _++_, append-assoc, append-nil}
 use Prim.Native.Nat.{ℕ, zero, suc, _+_, _*_, _-_, _≤_, _<_}
-use native.Mathlib.Nat.{zero-add, mul-le-mul-right}
-use native.Mathlib.Numerals.{add-one}
+use native.Mathlib.Nat.{zero-add}
 use native.Mathlib.Omega.{arith}
 use lib.ListN.{length, take, drop, getD, length-append}
-use lib.Seq.{length-take-le}
 use lib.Dec.{leb, ltb}
 use borrow.Author.Tests.{le-leb, lt-ltb, le-ltb}
 use Rattle.lists.proofs.Tests.{cond-true, cond-false}
-use Rattle.lists.proofs.Loops.{more}
 use Rattle.records.specs.declared.kinds.Kind.{Kind}
 use Rattle.records.specs.declared.kinds.Row.{Row}
 use Rattle.records.specs.declared.kinds.Row.the-variants.{Known}
@@ -24,8 +21,8 @@ use Rattle.records.specs.Codecs.{Codec, encodeBy}
 use Rattle.records.specs.Table.{rows, row, rowOf, atHead, atActive, atDefunct}
 use Rattle.records.specs.Framing.{recordOf}
 use Rattle.records.specs.Wire as wire
-use Rattle.records.proofs.Numbers.{length-splice, splice-splice}
-use Rattle.records.proofs.Layouts.{splice-none}
+use Rattle.records.proofs.Numbers.{splice-splice}
+use Rattle.records.proofs.Runs.{length-all}
 use Rattle.records.proofs.Codecs.{Lawful}
 use Rattle.records.proofs.Framing.{length-record}
 use Rattle.records.proofs.Storing.{length-body}
@@ -65,52 +62,11 @@ pub length-whole : {R : Type 0} {k due : ℕ} (c : Codec R) → Plain k due c �
 length-whole {k} c p r = length-record k (encodeBy c r) ∙ ap (λ (n : ℕ). n + 4) (length-body c (p .lawful) r)
 
 module _ {R : Type 0} (e : Listed R) (p : Plain (e .kind) (e .place) (e .codec)) where
+  pub length-one : (r : R) → length (bytesOfOne e r) ≡ total (e .codec .layout) + 4
+  length-one r = length-whole (e .codec) p r
+
   pub length-run : (l : List R) → length (bytesOfRun e l) ≡ length l * (total (e .codec .layout) + 4)
-  unfolding bytesOfRun
-  length-run [] = omega arith
-  length-run (r ∷ rs) = length-append (bytesOfOne e r) (bytesOfRun e rs) ∙ omega (arith, length-whole (e .codec) p r, length-run rs)
-
-  pub run-more : (l : List R) (r : R) → bytesOfRun e (l ++ (r ∷ [])) ≡ bytesOfRun e l ++ bytesOfOne e r
-  unfolding bytesOfRun
-  run-more [] r = append-nil (bytesOfOne e r)
-  run-more (x ∷ xs) r = ap (λ (b : List ℕ). bytesOfOne e x ++ b) (run-more xs r) ∙ sym (append-assoc (bytesOfOne e x) (bytesOfRun e xs) (bytesOfOne e r))
-
-  -- ---- the loop: i records are stored; each has z bytes
-  module _ (z : ℕ) (ez : z ≡ total (e .codec .layout) + 4) (s : List ℕ) (from n : ℕ) (locks : List R) where
-    pub record Put (out : List ℕ) (i : ℕ) : Type 0 where
-      pub most : i ≤ n
-      pub size : length out ≡ length s
-      pub stored : out ≡ splice s from (bytesOfRun e (take i locks))
-
-    pub starts : from ≤ length s → Put s 0
-    unfolding bytesOfRun
-    starts h = record { most = omega arith; size = refl; stored = splice-none s from h }
-
-    module _ (hn : n ≤ length locks) (h : from + n * z ≤ length s) where
-      run-size : (i : ℕ) → i ≤ n → length (bytesOfRun e (take i locks)) ≡ i * z
-      run-size i k = length-run (take i locks) ∙ ap (λ (m : ℕ). m * (total (e .codec .layout) + 4)) (length-take-le i locks (omega arith)) ∙ ap (λ (m : ℕ). i * m) (sym ez)
-
-      room : (i : ℕ) → i < n → from + i * z + z ≤ length s
-      room i k = omega (arith, mul-le-mul-right {m = i + 1} {n = n} z (omega arith))
-
-      pub turns : (d : R) (out out′ : List ℕ) (i : ℕ) → i < n → Put out i → out′ ≡ N.stored out (from + i * z) (bytesOfOne e (getD locks i d)) → Put out′ (i + 1)
-      unfolding N.stored
-      turns d out out′ i k g q =
-          let r : R = getD locks i d in
-          let one : length (bytesOfOne e r) ≡ z = length-whole (e .codec) p r ∙ sym ez in
-          let fits : from + i * z + length (bytesOfOne e r) ≤ length out = omega (arith, room i k, g .size, one) in
-          let q′ : out′ ≡ splice out (from + i * z) (bytesOfOne e r) = q ∙ cond-true _ _ _ (le-leb _ _ fits) in
-          record {
-            most = omega arith;
-            size = ap length q′ ∙ length-splice out (from + i * z) (bytesOfOne e r) fits ∙ g .size;
-            stored =
-                q′ ∙ ap (λ (x : List ℕ). splice x (from + i * z) (bytesOfOne e r)) (g .stored)
-                ∙ splice-splice s from (i * z) (bytesOfRun e (take i locks)) (bytesOfOne e r) (run-size i (omega arith)) (omega (arith, fits, g .size))
-                ∙ ap (splice s from) (sym (run-more (take i locks) r) ∙ ap (bytesOfRun e) (sym (more locks i d (omega arith))));
-          }
-
-      pub ends : (out : List ℕ) (i : ℕ) → n ≤ i → Put out i → out ≡ splice s from (bytesOfRun e (take n locks))
-      ends out i k g = g .stored ∙ ap (λ (m : ℕ). splice s from (bytesOfRun e (take m locks))) (let q : i ≡ n = omega (arith, g .most) in q)
+  length-run l = length-all (bytesOfOne e) (total (e .codec .layout) + 4) length-one l
 
 -- ---- the whole image
 -- 01: the length is 20 + 91 a + 104 d
@@ -122,7 +78,7 @@ length-image m n =
     let h : List ℕ = recordOf 1 (encodeBy wire.head (headOf m n)) in
     omega (arith, length-append h (a ++ d), length-append a d, length-whole wire.head head-plain (headOf m n), length-run activeList active-plain (m .active), length-run defunctList defunct-plain (m .defunct))
 
-splice-front : (s b : List ℕ) → splice s 0 b ≡ b ++ drop (length b) s
+pub splice-front : (s b : List ℕ) → splice s 0 b ≡ b ++ drop (length b) s
 unfolding splice
 splice-front s b = ap (λ (n : ℕ). b ++ drop n s) (zero-add (length b))
 

@@ -15,7 +15,7 @@ use Rattle.rules.specs.Rules.{brokenRule}
 use Rattle.records.specs.declared.frame.Framed.{Framed}
 use Rattle.records.specs.declared.frame.Framed.the-variants as F
 use Rattle.records.specs.declared.bodies.Head.{Head}
-use Rattle.records.specs.Numbers.{part}
+use Rattle.records.specs.Numbers.{part, bytesOfAll}
 use Rattle.records.specs.Codecs.{Codec, decodeBy, encodeBy}
 use Rattle.records.specs.Table.{atHead, atActive, atDefunct}
 use Rattle.records.specs.Framing.{frameAt, recordOf}
@@ -133,9 +133,8 @@ module _ {R : Type 0} (e : Listed R) where
   abbrev pub bytesOfOne : R → List ℕ
   bytesOfOne r = recordOf (e .kind) (encodeBy (e .codec) r)
 
-  unfoldable pub bytesOfRun : List R → List ℕ
-  bytesOfRun [] = []
-  bytesOfRun (r ∷ rs) = bytesOfOne r ++ bytesOfRun rs
+  abbrev pub bytesOfRun : List R → List ℕ
+  bytesOfRun l = bytesOfAll bytesOfOne l
 
 abbrev pub headOf : Model → ℕ → Head
 headOf m n = record { revision = m .revision; expected = n; actives = length (m .active); defuncts = length (m .defunct) }

@@ -9,9 +9,12 @@ use state::ActiveLock;
 use state::DefunctLock;
 ghost use mathlib.Core.Path.{_≡_};
 ghost use Prim.Native.Nat.{_+_, _*_, _≤_};
+ghost use mathlib.Core.Bool.{cond};
+ghost use lib.Dec.{ltb};
 ghost use lib.ListN.{length, take};
-ghost use Rattle.records.specs.Numbers.{splice};
-ghost use Rattle.image.specs.Image.{activeList, defunctList, bytesOfRun, done, writeOn};
+ghost use Rattle.state.specs.Model.{modelOf};
+ghost use Rattle.records.specs.Numbers.{splice, stored};
+ghost use Rattle.image.specs.Image.{activeList, defunctList, bytesOfRun, imageOf, done, writeOn};
 
 fn put_actives(out: &mut [u8], from: usize, locks: [ActiveLock; 64], n: usize)
     requires { ⌜ (n ≤ 64) × (from + n * 91 ≤ length (now out)) ⌝ }
@@ -67,4 +70,35 @@ pub fn write_image(spare: Spare, out: &mut [u8]) -> Writing
     let defunct = state.defunct;
     put_defuncts(out, second, defunct, defuncts);
     Writing::Done(needed)
+}
+
+// A count past the limit counts as the limit.
+pub fn at_most(n: usize, most: usize) -> usize
+    ensures { λ r. ⌜ r ≡ cond (ltb most n) most n ⌝ }
+{
+    if most < n {
+        return most;
+    }
+    n
+}
+
+// How many bytes the spare's image has.
+pub fn image_size(spare: Spare) -> usize
+    ensures { λ r. ⌜ r ≡ length (imageOf (modelOf (spare .state)) (spare .expected)) ⌝ }
+{
+    let state = spare.state;
+    let actives = at_most(state.actives, 64);
+    let defuncts = at_most(state.defuncts, 128);
+    20 + actives * 91 + defuncts * 104
+}
+
+// ACTIVE records of the first n locks, from the buffer's start on. Where they have no room, nothing is stored.
+pub fn store_actives(out: &mut [u8], locks: [ActiveLock; 64], n: usize)
+    ensures { λ r. ⌜ now (out .exit) ≡ stored (now (out .entry)) 0 (bytesOfRun activeList (take n locks)) ⌝ }
+{
+    let k = at_most(n, 64);
+    if out.len() < k * 91 {
+        return;
+    }
+    put_actives(out, 0, locks, k);
 }

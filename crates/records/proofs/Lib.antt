@@ -10,3 +10,4 @@ pub mod Feeds
 pub mod Trips
 pub mod Sets
 pub mod Examples
+pub mod Runs

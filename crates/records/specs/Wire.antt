@@ -2,7 +2,7 @@
 -- metadata that doesn't apply is zero". Assumes nothing.
 use Prim.Native.Nat.{ℕ}
 use mathlib.Core.Bool.{Bool, true, false, not, cond}
-use mathlib.Core.List.{[], _∷_}
+use mathlib.Core.List.{List, [], _∷_, _++_}
 use lib.ListN.{getD}
 use lib.Dec.{eqb, leb}
 use Rattle.lists.specs.Tests.{_and_, _imp_}
@@ -13,7 +13,7 @@ use Rattle.state.specs.declared.Lock.{Lock}
 use Rattle.state.specs.declared.ActiveLock.{ActiveLock}
 use Rattle.state.specs.declared.DefunctLock.{DefunctLock}
 use Rattle.records.specs.declared.bodies.Head.{Head}
-use Rattle.records.specs.Numbers.{little, big}
+use Rattle.records.specs.Numbers.{little, big, bytesOf}
 use Rattle.records.specs.Codecs.{Codec, joined}
 
 abbrev pub flag : Bool → ℕ
@@ -47,6 +47,9 @@ parentRight k hi lo = leb k 1 and (eqb k 0 imp eqb hi 0 and eqb lo 0)
 -- an id: its first eight bytes and its last eight, the first byte most significant
 abbrev pub id : ℕ → ℕ → LockId
 id h l = record { hi = h; lo = l }
+
+abbrev pub idBytes : LockId → List ℕ
+idBytes i = bytesOf (big 8) (i .hi) ++ bytesOf (big 8) (i .lo)
 
 -- "Lock start, 62 bytes: id 16, scope kind 1, scope number 1, exclusive 1, coverage kind 1, set 32, subject 2, principal 4,
 -- metadata 4". The set as four words, least byte first, so that ECU e is bit e mod 64 of word e / 64.

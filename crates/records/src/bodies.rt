@@ -38,7 +38,7 @@ pub enum DefunctRead {
 }
 
 // ---- what is right of the numbers
-fn scope_right(kind: u8, number: u8) -> bool
+pub fn scope_right(kind: u8, number: u8) -> bool
     ensures { λ r. ⌜ r ≡ scopeRight kind number ⌝ }
 {
     (kind <= 2) & ((kind != 0) | (number == 0))
@@ -96,7 +96,7 @@ pub(crate) fn id_at(s: &[u8], at: usize) -> LockId
     }
 }
 
-fn scope_of(kind: u8, number: u8) -> ScopeKey
+pub fn scope_of(kind: u8, number: u8) -> ScopeKey
     ensures { λ r. ⌜ r ≡ scopeOf kind number ⌝ }
 {
     if kind == 0 {

@@ -3,6 +3,7 @@
 use crate::bodies::Head;
 use crate::fields;
 use crate::kinds;
+use ids::LockId;
 use state::ActiveLock;
 use state::DefunctLock;
 use state::Lock;
@@ -16,7 +17,7 @@ ghost use Rattle.records.specs.Numbers.{little, bytesOf, splice, stored}
 ghost use Rattle.records.specs.Table.{lengthOf};
 ghost use Rattle.records.specs.Framing.{recordOf};
 ghost use Rattle.records.specs.Codecs.{encodeBy, putFields};
-ghost use Rattle.records.specs.Wire.{flag, scopeKind, scopeNumber, lockStart, active, defunct, head};
+ghost use Rattle.records.specs.Wire.{flag, scopeKind, scopeNumber, idBytes, lockStart, active, defunct, head};
 
 fn flag_of(b: bool) -> u8
     ensures { λ r. ⌜ r ≡ flag b ⌝ }
@@ -167,4 +168,15 @@ pub fn put_defunct(out: &mut [u8], at: usize, d: DefunctLock)
     let b = at + 4;
     let e = at + 104;
     put_defunct_body(&mut out[b..e], d);
+}
+
+// An id alone: its sixteen bytes.
+pub fn put_id(out: &mut [u8], at: usize, id: LockId)
+    ensures { λ r. ⌜ now (out .exit) ≡ stored (now (out .entry)) at (idBytes id) ⌝ }
+{
+    if !has_room(out.len(), at, 16) {
+        return;
+    }
+    fields::put_big64(out, at, id.hi);
+    fields::put_big64(out, at + 8, id.lo);
 }

@@ -6,8 +6,9 @@ use denote.Ref.{now}
 use lib.ListN.{length}
 use Rattle.lists.proofs.Loops.{length-of-mapped}
 use Rattle.state.specs.Locks.{blankActive}
-use Rattle.image.specs.Image.{activeList}
-use Rattle.image.proofs.Writes.{Put, starts, turns, ends, active-plain}
+use Rattle.image.specs.Image.{activeList, bytesOfOne}
+use Rattle.records.proofs.Runs.{Put, starts, turns, ends}
+use Rattle.image.proofs.Writes.{length-one, active-plain}
 use Rattle.image.proofs.write.put_actives.Statement.{statement}
 use Rattle.image.proofs.write.put_actives.Tie as tie
 use Rattle.image.proofs.write.put_actives.Reads as reads
@@ -15,14 +16,14 @@ use Rattle.image.proofs.write.put_actives.Lts as lts
 use Rattle.records.proofs.writing.put_active.Reads as put-active-reads
 
 abbrev Inv-loop : tie.InvT-loop
-Inv-loop out₀ from n locks i₀ out i = Put activeList active-plain 91 refl out₀ from n locks out i
+Inv-loop out₀ from n locks i₀ out i = Put (bytesOfOne activeList) 91 (length-one activeList active-plain) out₀ from n locks out i
 
 abbrev μ-loop : tie.MeasureT-loop
 μ-loop out₀ from n locks i₀ out i = n - i
 
 -- src/write.rt:21:5
 loop-holds : tie.Need-loop-holds Inv-loop μ-loop
-loop-holds c = let a = c .before .args in starts activeList active-plain 91 refl (now (a .out)) (a .from) (a .n) (a .t3) (omega (arith, c .before .pre .1))
+loop-holds c = let a = c .before .args in starts (bytesOfOne activeList) 91 (length-one activeList active-plain) (now (a .out)) (a .from) (a .n) (a .t3) (omega (arith, c .before .pre .1))
 
 -- src/write.rt:22:17
 mul-a : tie.Need-mul-a Inv-loop μ-loop
@@ -57,7 +58,7 @@ loop-again : tie.Need-loop-again Inv-loop μ-loop
 unfolding blankActive
 loop-again c = let a = c .before .before .before .before .before .before .before .before .args in let l = c .before .before .before .before .before .before .loop in
     let e : length (a .t3) ≡ 64 = search (needs, length-of-mapped) in
-    turns activeList active-plain 91 refl (now (a .out)) (a .from) (a .n) (a .t3) (omega (arith, c .before .before .before .before .before .before .before .before .pre .0)) (c .before .before .before .before .before .before .before .before .pre .1) blankActive (l .out) (c .before .before .put-active .last .0) (l .i) (c .before .before .before .before .before .loop-test .taken) (l .inv) (c .before .before .put-active .ensures)
+    turns (bytesOfOne activeList) 91 (length-one activeList active-plain) (now (a .out)) (a .from) (a .n) (a .t3) (omega (arith, c .before .before .before .before .before .before .before .before .pre .0)) (c .before .before .before .before .before .before .before .before .pre .1) blankActive (l .out) (c .before .before .put-active .last .0) (l .i) (c .before .before .before .before .before .loop-test .taken) (l .inv) (c .before .before .put-active .ensures)
 
 -- src/write.rt:16:1
 same-length : tie.Need-same-length Inv-loop μ-loop
@@ -67,7 +68,7 @@ same-length c = search needs
 returns : tie.Need-returns Inv-loop μ-loop
 returns c = let a = c .before .before .before .args in let l = c .before .loop in
     let e : length (a .t3) ≡ 64 = search (needs, length-of-mapped) in
-    ends activeList active-plain 91 refl (now (a .out)) (a .from) (a .n) (a .t3) (omega (arith, c .before .before .before .pre .0)) (c .before .before .before .pre .1) (l .out) (l .i) (c .loop-test .left) (l .inv)
+    ends (bytesOfOne activeList) 91 (length-one activeList active-plain) (now (a .out)) (a .from) (a .n) (a .t3) (omega (arith, c .before .before .before .pre .0)) (c .before .before .before .pre .1) (l .out) (l .i) (c .loop-test .left) (l .inv)
 
 pub put-actives-spec : {M : Type 1} → statement M
 put-actives-spec =

@@ -6,8 +6,9 @@ use denote.Ref.{now}
 use lib.ListN.{length}
 use Rattle.lists.proofs.Loops.{length-of-mapped}
 use Rattle.state.specs.Locks.{blankDefunct}
-use Rattle.image.specs.Image.{defunctList}
-use Rattle.image.proofs.Writes.{Put, starts, turns, ends, defunct-plain}
+use Rattle.image.specs.Image.{defunctList, bytesOfOne}
+use Rattle.records.proofs.Runs.{Put, starts, turns, ends}
+use Rattle.image.proofs.Writes.{length-one, defunct-plain}
 use Rattle.image.proofs.write.put_defuncts.Statement.{statement}
 use Rattle.image.proofs.write.put_defuncts.Tie as tie
 use Rattle.image.proofs.write.put_defuncts.Reads as reads
@@ -15,14 +16,14 @@ use Rattle.image.proofs.write.put_defuncts.Lts as lts
 use Rattle.records.proofs.writing.put_defunct.Reads as put-defunct-reads
 
 abbrev Inv-loop : tie.InvT-loop
-Inv-loop out₀ from n locks i₀ out i = Put defunctList defunct-plain 104 refl out₀ from n locks out i
+Inv-loop out₀ from n locks i₀ out i = Put (bytesOfOne defunctList) 104 (length-one defunctList defunct-plain) out₀ from n locks out i
 
 abbrev μ-loop : tie.MeasureT-loop
 μ-loop out₀ from n locks i₀ out i = n - i
 
 -- src/write.rt:33:5
 loop-holds : tie.Need-loop-holds Inv-loop μ-loop
-loop-holds c = let a = c .before .args in starts defunctList defunct-plain 104 refl (now (a .out)) (a .from) (a .n) (a .t3) (omega (arith, c .before .pre .1))
+loop-holds c = let a = c .before .args in starts (bytesOfOne defunctList) 104 (length-one defunctList defunct-plain) (now (a .out)) (a .from) (a .n) (a .t3) (omega (arith, c .before .pre .1))
 
 -- src/write.rt:34:17
 mul-d : tie.Need-mul-d Inv-loop μ-loop
@@ -57,7 +58,7 @@ loop-again : tie.Need-loop-again Inv-loop μ-loop
 unfolding blankDefunct
 loop-again c = let a = c .before .before .before .before .before .before .before .before .args in let l = c .before .before .before .before .before .before .loop in
     let e : length (a .t3) ≡ 128 = search (needs, length-of-mapped) in
-    turns defunctList defunct-plain 104 refl (now (a .out)) (a .from) (a .n) (a .t3) (omega (arith, c .before .before .before .before .before .before .before .before .pre .0)) (c .before .before .before .before .before .before .before .before .pre .1) blankDefunct (l .out) (c .before .before .put-defunct .last .0) (l .i) (c .before .before .before .before .before .loop-test .taken) (l .inv) (c .before .before .put-defunct .ensures)
+    turns (bytesOfOne defunctList) 104 (length-one defunctList defunct-plain) (now (a .out)) (a .from) (a .n) (a .t3) (omega (arith, c .before .before .before .before .before .before .before .before .pre .0)) (c .before .before .before .before .before .before .before .before .pre .1) blankDefunct (l .out) (c .before .before .put-defunct .last .0) (l .i) (c .before .before .before .before .before .loop-test .taken) (l .inv) (c .before .before .put-defunct .ensures)
 
 -- src/write.rt:28:1
 same-length : tie.Need-same-length Inv-loop μ-loop
@@ -67,7 +68,7 @@ same-length c = search needs
 returns : tie.Need-returns Inv-loop μ-loop
 returns c = let a = c .before .before .before .args in let l = c .before .loop in
     let e : length (a .t3) ≡ 128 = search (needs, length-of-mapped) in
-    ends defunctList defunct-plain 104 refl (now (a .out)) (a .from) (a .n) (a .t3) (omega (arith, c .before .before .before .pre .0)) (c .before .before .before .pre .1) (l .out) (l .i) (c .loop-test .left) (l .inv)
+    ends (bytesOfOne defunctList) 104 (length-one defunctList defunct-plain) (now (a .out)) (a .from) (a .n) (a .t3) (omega (arith, c .before .before .before .pre .0)) (c .before .before .before .pre .1) (l .out) (l .i) (c .loop-test .left) (l .inv)
 
 pub put-defuncts-spec : {M : Type 1} → statement M
 put-defuncts-spec =

@@ -1,0 +1,24 @@
+use mathlib.Core.Path.{_≡_, refl, sym, ap, _∙_}
+use Rattle.exports.specs.Questions.{plainReply}
+use borrow.Author.Needs.{needs}
+use Rattle.exports.proofs.questions.one.Statement.{statement}
+use Rattle.exports.proofs.questions.one.Tie as tie
+use Rattle.exports.proofs.questions.one.Reads as reads
+use Rattle.exports.proofs.questions.one.Lts as lts
+use Rattle.exports.proofs.papers.one.Reads as one-reads
+use Rattle.exports.proofs.questions.plain.Reads as plain-reads
+
+-- src/questions.rt:77:11
+one-requires : tie.Need-one-requires
+one-requires c κs = search needs
+
+-- src/questions.rt:77:5
+plain-requires : tie.Need-plain-requires
+plain-requires c κs = search needs
+
+-- src/questions.rt:74:1
+returns : tie.Need-returns
+returns c = c .plain .ensures ∙ ap plainReply (c .before .one .ensures)
+
+pub one-spec : {M : Type 1} → statement M
+one-spec = tie.close (tie.spec one-requires plain-requires returns)

@@ -1,0 +1,28 @@
+use Rattle.exports.proofs.Naming.{named}
+use borrow.Author.Needs.{needs}
+use Rattle.exports.proofs.tables.cablegorse_name_number.Statement.{statement}
+use Rattle.exports.proofs.tables.cablegorse_name_number.Tie as tie
+use Rattle.exports.proofs.tables.cablegorse_name_number.Reads as reads
+use Rattle.exports.proofs.tables.cablegorse_name_number.Lts as lts
+use Rattle.exports.proofs.papers.of_named.Reads as of-named-reads
+use Rattle.names.proofs.number_of.Reads as number-of-reads
+
+-- src/tables.rt:15:9
+number-of-requires : tie.Need-number-of-requires
+number-of-requires c κs = search needs
+
+-- src/tables.rt:16:5
+of-named-requires : tie.Need-of-named-requires
+of-named-requires c κs = search needs
+
+-- src/tables.rt:11:1
+same-length : tie.Need-same-length
+same-length c = search needs
+
+-- src/tables.rt:11:1
+returns : tie.Need-returns
+returns c = named _ _ _ _ _ _ (c .before .before .before .number-of .ensures) (c .of-named .ensures)
+
+pub cablegorse-name-number-spec : {M : Type 1} → statement M
+cablegorse-name-number-spec =
+    tie.close (tie.spec number-of-requires of-named-requires same-length returns)

@@ -1,0 +1,5 @@
+pub mod Telling
+pub mod Boundary
+pub mod Questions
+pub mod Replies
+pub mod Changes
