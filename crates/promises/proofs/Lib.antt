@@ -7,6 +7,7 @@
 --     Closed    a tree is closed under parents; overlap is symmetric
 -- On the state, as the code's contracts say it:
 --     Again     no operation answers the closing check's Invariant; what the test accepts it accepts again (demand 3)
+--     Dropping  the same of delete_defunct, which no feed asks for
 --     Agree     the steps on lists and on states are one
 --     Bench     the bench sheet's twelve starred rows
 -- The other files have what these are made of.
@@ -21,6 +22,7 @@ pub mod Every
 pub mod Answered
 pub mod Closing
 pub mod Again
+pub mod Dropping
 pub mod Agree
 pub mod Room
 pub mod Links
