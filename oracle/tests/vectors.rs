@@ -12,7 +12,7 @@ static SAMPLE: LazyLock<Vec<Vector>> = LazyLock::new(sample);
 
 #[test]
 fn remaking_gives_the_same_bytes() {
-    let kept = include_bytes!("../vectors/vectors.bin");
+    let kept = include_bytes!("../../crates/vectors/stdin");
     assert!(
         file(&SAMPLE) == kept,
         "run `cargo run --release --bin vectors`"
@@ -54,7 +54,7 @@ fn every_operation_and_every_number_twice() {
 /// The file read by its format alone: each case is what the boundary answers.
 #[test]
 fn the_file_reads_back() {
-    let kept = include_bytes!("../vectors/vectors.bin");
+    let kept = include_bytes!("../../crates/vectors/stdin");
     let mut rest = &kept[..];
     let mut cases = 0;
     let take = |rest: &mut &[u8], count: usize| {

@@ -1,5 +1,5 @@
 // SPDX-License-Identifier: Apache-2.0
-//! Writes the sample of the oracle's answers: vectors [FILE], vectors/vectors.bin if not given.
+//! Writes the sample of the oracle's answers: vectors [FILE], ../crates/vectors/stdin if not given.
 
 use std::{collections::BTreeMap, env, fs, process::ExitCode};
 
@@ -8,7 +8,7 @@ use oracle::vectors;
 fn main() -> ExitCode {
     let path = env::args()
         .nth(1)
-        .unwrap_or_else(|| "vectors/vectors.bin".to_owned());
+        .unwrap_or_else(|| "../crates/vectors/stdin".to_owned());
     let sample = vectors::sample();
     let file = vectors::file(&sample);
     let mut seen: BTreeMap<u32, usize> = BTreeMap::new();
