@@ -6,8 +6,8 @@ use Prim.Native.Nat.{ℕ, _+_, _-_, _≤_, _<_}
 use native.Mathlib.Omega.{arith}
 use lib.ListN.{length, take, drop, length-take, length-drop}
 use lib.Seq.{take-length}
-use borrow.Author.Tests.{lt-ltb, le-ltb}
-use Rattle.lists.proofs.Tests.{cond-true, cond-false}
+use borrow.Author.Tests.{le-ltb}
+use Rattle.lists.proofs.Tests.{cond-false}
 use Rattle.lookups.specs.Papers.{paper}
 use Rattle.names.specs.declared.Named.{Named}
 use Rattle.names.specs.declared.NameAt.{NameAt}
@@ -18,6 +18,7 @@ use Rattle.names.proofs.Theorems.{part-told}
 use Rattle.exports.specs.declared.Told.{Told}
 use Rattle.exports.specs.Telling.{toldOf, namedTold, kept, fitted}
 use Rattle.exports.specs.Boundary.{nameNumberOf, namePut, nameAtOf}
+use Rattle.exports.proofs.Buffers.{too-short}
 
 pub named : (f : Bool) (t name : List ℕ) (n : Named) (u : List ℕ) (r : Told) → names.done n u ≡ numberOf f t name → r ≡ namedTold n → kept r u ≡ nameNumberOf f t name
 unfolding nameNumberOf
@@ -49,11 +50,7 @@ module _ (f : Bool) (t : List ℕ) (i : ℕ) (out : List ℕ) (p : NameAt) (e : 
     found = ap (namePut (nameAt f t i) out) (sym h) ∙ by-place
 
     pub name-short : length out < l → r ≡ toldOf (paper 21 (l ∷ [])) → kept r out ≡ nameAtOf f t i out
-    name-short k q =
-        ap (λ (x : Told). kept x out) q
-        ∙ ap (λ (n : ℕ). kept (toldOf (paper 21 (n ∷ []))) out) (sym name-size)
-        ∙ sym (cond-true _ _ _ (lt-ltb (length out) (length (nameAt f t i)) (omega (arith, name-size))))
-        ∙ found
+    name-short k q = too-short _ (nameAt f t i) out l (sym name-size) k r q ∙ found
 
     -- b is the part of the table that was copied
     pub name-copied : l ≤ length out → (n : ℕ) (u b : List ℕ) → b ≡ take (s + l - s) (drop s t) → n ≡ length b → u ≡ take (length b) b ++ drop (length b) out → r ≡ toldOf (paper 0 (1 ∷ (n ∷ []))) → kept r u ≡ nameAtOf f t i out
