@@ -357,6 +357,20 @@ impl Run {
         feed
     }
 
+    /// A base image, sometimes damaged, and a feed for it, for the program `spare`.
+    #[must_use]
+    pub fn base_and_feed(seed: u64) -> (Vec<u8>, Vec<u8>) {
+        let mut run = Self::new(seed);
+        let profile = [Profile::Tiny, Profile::Small, Profile::Full][run.rng.below(3)];
+        let case = Case::of(&mut run.rng, profile);
+        let expected = run.number();
+        let mut base = wire::write_image(&case.state, expected).expect("a sound state");
+        if run.rng.percent(15) {
+            generate::damage(&mut run.rng, &mut base);
+        }
+        (base, run.through_a_link(&case, expected))
+    }
+
     /// Name tables: growing, full, damaged.
     fn tables(&mut self) {
         let folding = self.rng.percent(50);
