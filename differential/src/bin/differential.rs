@@ -219,6 +219,14 @@ fn bytes_part(threads: u64) -> Option<Tally> {
         })
     })?;
     tally.add(&of_records);
+    // Kinds of image records, feed kinds and their neighbours, and one beyond a byte.
+    let kinds: Vec<u16> = (0..=4).chain(15..=24).chain([272]).collect();
+    let of_lengths = spread(threads, kinds.len() as u64, |place| {
+        let kind = kinds[place as usize];
+        guarded("kind", kind.into(), || Run::every_length(&image, kind))
+    })?;
+    tally.add(&of_lengths);
+    tally.add(&guarded("argument", 0, || Run::every_argument(&image))?);
     Some(tally)
 }
 
@@ -228,7 +236,7 @@ fn whole(operations: u64, seed: u64, threads: u64) -> ExitCode {
         return ExitCode::FAILURE;
     };
     println!(
-        "every byte of an image and of a record of each kind: {} calls, no difference ({:.0} s)",
+        "every byte of an image and of a record of each kind, every length, every argument: {} calls, no difference ({:.0} s)",
         sum.calls + sum.operations,
         start.elapsed().as_secs_f64()
     );
