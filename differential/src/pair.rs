@@ -297,6 +297,15 @@ pub fn prepare_bytes(image: &[u8], generation: u64) -> Told {
     due
 }
 
+/// The response class of a number on both sides.
+pub fn response_class(number: u64) {
+    assert_eq!(
+        library::response_class(number),
+        boundary::response_class(number),
+        "response_class {number} differs (library, judge)"
+    );
+}
+
 /// A name's number on both sides; the table's own bytes are compared too. Returns them.
 pub fn name_number(table: &[u8], name: &[u8], folding: bool) -> (Told, Vec<u8>) {
     let (mut ours, mut theirs) = (table.to_vec(), table.to_vec());

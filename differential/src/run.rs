@@ -357,6 +357,20 @@ impl Run {
         feed
     }
 
+    /// A base image, sometimes damaged, and a feed for it, for the program `spare`.
+    #[must_use]
+    pub fn base_and_feed(seed: u64) -> (Vec<u8>, Vec<u8>) {
+        let mut run = Self::new(seed);
+        let profile = [Profile::Tiny, Profile::Small, Profile::Full][run.rng.below(3)];
+        let case = Case::of(&mut run.rng, profile);
+        let expected = run.number();
+        let mut base = wire::write_image(&case.state, expected).expect("a sound state");
+        if run.rng.percent(15) {
+            generate::damage(&mut run.rng, &mut base);
+        }
+        (base, run.through_a_link(&case, expected))
+    }
+
     /// Name tables: growing, full, damaged.
     fn tables(&mut self) {
         let folding = self.rng.percent(50);
@@ -486,6 +500,93 @@ impl Run {
             }
             let (applied, _) = pair::apply(&mut run.buffers, &subject, &record[..at], 0, longer);
             run.tally.see("record, cut", label(&applied.told));
+        }
+        run.tally
+    }
+}
+
+impl Run {
+    /// Every length of a record of this kind, whole and one byte short, with a body of zeros.
+    #[must_use]
+    pub fn every_length(image: &[u8], kind: u16) -> Tally {
+        let mut run = Self::new(13);
+        let (state, expected) = wire::read_image(image).expect("an image");
+        let mut judge = Judge::new(&state);
+        let subject = Subject {
+            image,
+            judge: &mut judge,
+            expected,
+        };
+        let longer = |needed: [usize; 3]| needed.map(|bytes| bytes + 2);
+        // The longest record says 1131: a replacement with 64 roots.
+        for length in (0u16..1160).chain([65_535]) {
+            let mut feed = vec![0; 2 + usize::from(length)];
+            feed[..2].copy_from_slice(&length.to_le_bytes());
+            if let Some(field) = feed.get_mut(2..4) {
+                field.copy_from_slice(&kind.to_le_bytes());
+            }
+            if let Some(field) = feed.get_mut(4..8) {
+                field.copy_from_slice(&expected.to_le_bytes());
+            }
+            // The count of ids that the length says, where there is one.
+            let (at, base) = if kind == 17 { (97, 95) } else { (109, 107) };
+            if length >= base
+                && let Some(field) = feed.get_mut(at - 2..at)
+            {
+                field.copy_from_slice(&((length - base) / 16).to_le_bytes());
+            }
+            for cut in [0, 1] {
+                let feed = &feed[..feed.len() - cut];
+                let (applied, _) = pair::apply(&mut run.buffers, &subject, feed, 0, longer);
+                run.tally.see("every length", label(&applied.told));
+                run.tally.operations += 1;
+            }
+        }
+        run.tally
+    }
+
+    /// Every scope, ECU, group and question number, in and out of range; every refusal number.
+    #[must_use]
+    pub fn every_argument(image: &[u8]) -> Tally {
+        let mut run = Self::new(17);
+        let (state, expected) = wire::read_image(image).expect("an image");
+        let mut judge = Judge::new(&state);
+        let mut subject = Subject {
+            image,
+            judge: &mut judge,
+            expected,
+        };
+        let subjects: Vec<u64> = state
+            .active
+            .iter()
+            .map(|a| a.lock.subject.into())
+            .chain([0, 65_535, 65_536])
+            .collect();
+        let mut asked: Vec<(u32, u64, u64)> = Vec::new();
+        for y in 0..=260 {
+            asked.extend((0..=4).flat_map(|x| [(2, x, y), (10, x, y)]));
+            asked.extend(subjects.iter().map(|x| (8, *x, y)));
+            asked.extend([(5, y, 0), (6, y, 0)]);
+        }
+        for y in 0..=800 {
+            asked.extend(subjects.iter().map(|x| (9, *x, y)));
+        }
+        asked.extend((0..=40).map(|question| (question, 0, 0)));
+        for (number, x, y) in asked {
+            let record = &[];
+            let question = Question {
+                number,
+                x,
+                y,
+                record,
+            };
+            let told = pair::read(&mut run.buffers, &mut subject, question, 104);
+            run.tally.see("every argument", label(&told));
+            run.tally.calls += 1;
+        }
+        for number in (0..=300).chain([u64::MAX, 1 << 32, (1 << 32) + 2, 1 << 8]) {
+            pair::response_class(number);
+            run.tally.calls += 1;
         }
         run.tally
     }

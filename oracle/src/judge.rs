@@ -240,11 +240,16 @@ pub const REPLAY_LIMIT: usize = 65_536;
 /// What the program `replay` prints for this input.
 #[must_use]
 pub fn replay(feed: &[u8]) -> String {
+    play(Spare::default(), feed).0
+}
+
+/// Plays a feed to a spare: a line for each record, and the spare after the last one.
+#[must_use]
+pub fn play(mut spare: Spare, feed: &[u8]) -> (String, Spare) {
     if feed.len() > REPLAY_LIMIT {
-        return "long\n".to_owned();
+        return ("long\n".to_owned(), spare);
     }
     let mut lines = String::new();
-    let mut spare = Spare::default();
     let mut at = 0;
     while at < feed.len() {
         let step = feed_step(&spare, feed, at);
@@ -268,5 +273,5 @@ pub fn replay(feed: &[u8]) -> String {
         );
         (spare, at) = (step.spare, step.next);
     }
-    lines
+    (lines, spare)
 }

@@ -7,9 +7,10 @@
 //! differential block SEED                      one block of random states again
 //! differential tiny [STEP]                     every STEP-th state of the tiny universe
 //! differential replay PROGRAM [FEEDS] [SEED]   what the program prints, beside the judge
+//! differential spare PROGRAM [FEEDS] [SEED]    the same from a base image, and the new image
 
 use std::{
-    env,
+    env, fs,
     io::Write,
     process::{Command, ExitCode, Stdio},
     sync::{
@@ -24,6 +25,7 @@ use differential::{
     run::{Run, rich, tiny_universe},
     tally::{REACHABLE, Tally},
 };
+use oracle::{judge, wire};
 
 /// Each reachable answer is to be seen this often.
 const OFTEN: u64 = 100;
@@ -36,12 +38,12 @@ fn main() -> ExitCode {
     };
     let numbers = match words.first().map(String::as_str) {
         Some("block" | "tiny") => [number(1, 1), Some(0), Some(0)],
-        Some("replay") if words.len() > 1 => [number(2, 300), number(3, 1), Some(0)],
+        Some("replay" | "spare") if words.len() > 1 => [number(2, 300), number(3, 1), Some(0)],
         _ => [number(0, 1_000_000), number(1, 1), number(2, 2)],
     };
     let [Some(first), Some(seed), Some(threads)] = numbers else {
         eprintln!(
-            "differential [OPERATIONS] [SEED] [THREADS] | block SEED | tiny [STEP] | replay PROGRAM [FEEDS] [SEED]"
+            "differential [OPERATIONS] [SEED] [THREADS] | block SEED | tiny [STEP] | replay or spare PROGRAM [FEEDS] [SEED]"
         );
         return ExitCode::from(2);
     };
@@ -56,50 +58,94 @@ fn main() -> ExitCode {
             ExitCode::SUCCESS
         }
         Some("tiny") => tiny(first.max(1) as usize),
-        Some("replay") => match replay(&words[1], first, seed) {
-            Ok(lines) => {
-                println!("replay: {first} feeds, {lines} lines, no difference");
-                ExitCode::SUCCESS
+        Some(name @ ("replay" | "spare")) => {
+            let compare = if name == "replay" { replay } else { spare };
+            match programs(&words[1], first, seed, compare) {
+                Ok(lines) => {
+                    println!("{name}: {first} feeds, {lines} lines, no difference");
+                    ExitCode::SUCCESS
+                }
+                Err(why) => {
+                    eprintln!("{why}");
+                    ExitCode::FAILURE
+                }
             }
-            Err(why) => {
-                eprintln!("{why}");
-                ExitCode::FAILURE
-            }
-        },
+        }
         _ => whole(first, seed, threads.max(1)),
     }
 }
 
-/// Runs the program on random feeds and compares what it prints; how many lines that were.
-fn replay(program: &str, feeds: u64, seed: u64) -> Result<usize, String> {
+/// Runs a program on random feeds and compares what it prints; how many lines that were.
+fn programs(
+    program: &str,
+    feeds: u64,
+    seed: u64,
+    compare: fn(&str, u64) -> Result<usize, String>,
+) -> Result<usize, String> {
     let mut lines = 0;
     for place in 0..feeds {
-        let feed = Run::feed_from_empty(seed.wrapping_mul(1_000_000).wrapping_add(place));
-        let failed = |error: std::io::Error| format!("{program}: {error}");
-        let mut child = Command::new(program)
-            .stdin(Stdio::piped())
-            .stdout(Stdio::piped())
-            .spawn()
-            .map_err(failed)?;
-        let mut input = child.stdin.take().ok_or("no pipe")?;
-        // It may stop reading early; what it prints is what counts.
-        let bytes = feed.clone();
-        let writer = thread::spawn(move || {
-            let _ = input.write_all(&bytes);
-        });
-        let output = child.wait_with_output().map_err(failed)?;
-        let _ = writer.join();
-        let due = oracle::judge::replay(&feed);
-        if output.stdout != due.as_bytes() {
-            return Err(format!(
-                "DIFFERENCE in feed {place} of seed {seed}, {} bytes\nprogram:\n{}\njudge:\n{due}",
-                feed.len(),
-                String::from_utf8_lossy(&output.stdout)
-            ));
-        }
-        lines += due.lines().count();
+        let seed = seed.wrapping_mul(1_000_000).wrapping_add(place);
+        lines += compare(program, seed).map_err(|why| format!("feed {seed}: {why}"))?;
     }
     Ok(lines)
+}
+
+fn same_output(printed: &[u8], due: &str) -> Result<usize, String> {
+    if printed == due.as_bytes() {
+        return Ok(due.lines().count());
+    }
+    let printed = String::from_utf8_lossy(printed);
+    Err(format!("DIFFERENCE\nprogram:\n{printed}\njudge:\n{due}"))
+}
+
+fn replay(program: &str, seed: u64) -> Result<usize, String> {
+    let feed = Run::feed_from_empty(seed);
+    let failed = |error: std::io::Error| format!("{program}: {error}");
+    let mut child = Command::new(program)
+        .stdin(Stdio::piped())
+        .stdout(Stdio::piped())
+        .spawn()
+        .map_err(failed)?;
+    let mut input = child.stdin.take().ok_or("no pipe")?;
+    // It may stop reading early; what it prints is what counts.
+    let bytes = feed.clone();
+    let writer = thread::spawn(move || {
+        let _ = input.write_all(&bytes);
+    });
+    let output = child.wait_with_output().map_err(failed)?;
+    let _ = writer.join();
+    same_output(&output.stdout, &judge::replay(&feed))
+}
+
+fn spare(program: &str, seed: u64) -> Result<usize, String> {
+    let (base, feed) = Run::base_and_feed(seed);
+    let failed = |error: std::io::Error| format!("{program}: {error}");
+    let folder = env::temp_dir().join(format!("cablegorse-spare-{}", std::process::id()));
+    fs::create_dir_all(&folder).map_err(failed)?;
+    let [base_at, feed_at, new_at] = ["base", "feed", "new"].map(|name| folder.join(name));
+    fs::write(&base_at, &base).map_err(failed)?;
+    fs::write(&feed_at, &feed).map_err(failed)?;
+    let output = Command::new(program)
+        .args([&base_at, &feed_at, &new_at])
+        .output()
+        .map_err(failed)?;
+    let new = fs::read(&new_at).ok();
+    fs::remove_dir_all(&folder).map_err(failed)?;
+    let (due, image) = match wire::read_image(&base) {
+        Err(refusal) => {
+            let line = format!("base {} {}\n", refusal.number(), refusal.place());
+            (line, None)
+        }
+        Ok((state, expected)) => {
+            let (lines, after) = judge::play(judge::Spare { state, expected }, &feed);
+            let image = wire::write_image(&after.state, after.expected);
+            (lines, image.ok())
+        }
+    };
+    if new != image {
+        return Err("DIFFERENCE in the new image".to_owned());
+    }
+    same_output(&output.stdout, &due)
 }
 
 /// Hands out places to threads until there are none left or one has failed.
@@ -173,6 +219,14 @@ fn bytes_part(threads: u64) -> Option<Tally> {
         })
     })?;
     tally.add(&of_records);
+    // Kinds of image records, feed kinds and their neighbours, and one beyond a byte.
+    let kinds: Vec<u16> = (0..=4).chain(15..=24).chain([272]).collect();
+    let of_lengths = spread(threads, kinds.len() as u64, |place| {
+        let kind = kinds[place as usize];
+        guarded("kind", kind.into(), || Run::every_length(&image, kind))
+    })?;
+    tally.add(&of_lengths);
+    tally.add(&guarded("argument", 0, || Run::every_argument(&image))?);
     Some(tally)
 }
 
@@ -182,7 +236,7 @@ fn whole(operations: u64, seed: u64, threads: u64) -> ExitCode {
         return ExitCode::FAILURE;
     };
     println!(
-        "every byte of an image and of a record of each kind: {} calls, no difference ({:.0} s)",
+        "every byte of an image and of a record of each kind, every length, every argument: {} calls, no difference ({:.0} s)",
         sum.calls + sum.operations,
         start.elapsed().as_secs_f64()
     );
