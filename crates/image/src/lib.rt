@@ -7,6 +7,16 @@ pub mod read;
 pub mod reader;
 pub mod write;
 
+// Bytes of a HEAD, an ACTIVE and a DEFUNCT record with its length.
+pub const HEAD: usize = 20;
+
+pub const ACTIVE: usize = 91;
+
+pub const DEFUNCT: usize = 104;
+
+// Bytes of the longest image.
+pub const LONGEST: usize = HEAD + LockState::ACTIVE * ACTIVE + LockState::DEFUNCT * DEFUNCT;
+
 // A spare adapter: its state, and the sequence number that is due next in the feed.
 pub struct Spare {
     pub state: LockState,

@@ -21,13 +21,13 @@ ghost use Rattle.image.specs.Code.{isDone, ranActives, ranDefuncts};
 struct Actives {
     told: Reading,
     at: usize,
-    locks: [ActiveLock; 64],
+    locks: [ActiveLock; LockState::ACTIVE],
 }
 
 struct Defuncts {
     told: Reading,
     at: usize,
-    locks: [DefunctLock; 128],
+    locks: [DefunctLock; LockState::DEFUNCT],
 }
 
 fn is_done(r: Reading) -> bool
@@ -61,7 +61,7 @@ fn no_actives(why: Reading) -> Actives
     Actives {
         told: why,
         at: 0,
-        locks: [state::blank_active(); 64],
+        locks: [state::blank_active(); LockState::ACTIVE],
     }
 }
 
@@ -71,7 +71,7 @@ fn no_defuncts(why: Reading) -> Defuncts
     Defuncts {
         told: why,
         at: 0,
-        locks: [state::blank_defunct(); 128],
+        locks: [state::blank_defunct(); LockState::DEFUNCT],
     }
 }
 
@@ -79,7 +79,7 @@ fn actives_at(image: &[u8], from: usize, n: usize) -> Actives
     requires { ⌜ n ≤ 64 ⌝ }
     ensures { λ r. ⌜ r ≡ ranActives (runAt activeList (now (image .entry)) n 0 from) ⌝ }
 {
-    let mut locks = [state::blank_active(); 64];
+    let mut locks = [state::blank_active(); LockState::ACTIVE];
     let mut last = LockId { hi: 0, lo: 0 };
     let mut at = from;
     let mut i: usize = 0;
@@ -120,7 +120,7 @@ fn defuncts_at(image: &[u8], from: usize, n: usize) -> Defuncts
     requires { ⌜ n ≤ 128 ⌝ }
     ensures { λ r. ⌜ r ≡ ranDefuncts (runAt defunctList (now (image .entry)) n 0 from) ⌝ }
 {
-    let mut locks = [state::blank_defunct(); 128];
+    let mut locks = [state::blank_defunct(); LockState::DEFUNCT];
     let mut last = LockId { hi: 0, lo: 0 };
     let mut at = from;
     let mut i: usize = 0;

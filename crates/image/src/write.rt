@@ -7,6 +7,7 @@ use records::writing;
 use rules::Verdict;
 use state::ActiveLock;
 use state::DefunctLock;
+use state::LockState;
 ghost use mathlib.Core.Path.{_≡_};
 ghost use Prim.Native.Nat.{_+_, _*_, _≤_};
 ghost use mathlib.Core.Bool.{cond};
@@ -16,26 +17,26 @@ ghost use Rattle.state.specs.Model.{modelOf};
 ghost use Rattle.records.specs.Numbers.{splice, stored};
 ghost use Rattle.image.specs.Image.{activeList, defunctList, bytesOfRun, imageOf, done, writeOn};
 
-fn put_actives(out: &mut [u8], from: usize, locks: [ActiveLock; 64], n: usize)
+fn put_actives(out: &mut [u8], from: usize, locks: [ActiveLock; LockState::ACTIVE], n: usize)
     requires { ⌜ (n ≤ 64) × (from + n * 91 ≤ length (now out)) ⌝ }
     ensures { λ r. ⌜ now (out .exit) ≡ splice (now (out .entry)) from (bytesOfRun activeList (take n locks)) ⌝ }
 {
     let mut i: usize = 0;
     while i < n {
         let a = locks[i];
-        writing::put_active(out, from + i * 91, a);
+        writing::put_active(out, from + i * crate::ACTIVE, a);
         i += 1;
     }
 }
 
-fn put_defuncts(out: &mut [u8], from: usize, locks: [DefunctLock; 128], n: usize)
+fn put_defuncts(out: &mut [u8], from: usize, locks: [DefunctLock; LockState::DEFUNCT], n: usize)
     requires { ⌜ (n ≤ 128) × (from + n * 104 ≤ length (now out)) ⌝ }
     ensures { λ r. ⌜ now (out .exit) ≡ splice (now (out .entry)) from (bytesOfRun defunctList (take n locks)) ⌝ }
 {
     let mut i: usize = 0;
     while i < n {
         let d = locks[i];
-        writing::put_defunct(out, from + i * 104, d);
+        writing::put_defunct(out, from + i * crate::DEFUNCT, d);
         i += 1;
     }
 }
@@ -53,8 +54,8 @@ pub fn write_image(spare: Spare, out: &mut [u8]) -> Writing
     }
     let actives = state.actives;
     let defuncts = state.defuncts;
-    let second = 20 + actives * 91;
-    let needed = second + defuncts * 104;
+    let second = crate::HEAD + actives * crate::ACTIVE;
+    let needed = second + defuncts * crate::DEFUNCT;
     if out.len() < needed {
         return Writing::ShortOutput(needed);
     }
@@ -66,7 +67,7 @@ pub fn write_image(spare: Spare, out: &mut [u8]) -> Writing
     };
     writing::put_head(out, 0, head);
     let active = state.active;
-    put_actives(out, 20, active, actives);
+    put_actives(out, crate::HEAD, active, actives);
     let defunct = state.defunct;
     put_defuncts(out, second, defunct, defuncts);
     Writing::Done(needed)

@@ -93,7 +93,7 @@ pub fn vehicle_lock_owner_sub(s: LockState) -> Owner
     owner_of(f)
 }
 
-fn kinds_held(l: [ActiveLock; 64], n: usize) -> Kinds
+fn kinds_held(l: [ActiveLock; LockState::ACTIVE], n: usize) -> Kinds
     requires { ⌜ n ≤ 64 ⌝ }
     ensures { λ r. ⌜ r ≡ kindsOf (take n l) ⌝ }
 {
@@ -173,7 +173,7 @@ fn judge(s: LockState, id: LockId, scope: ScopeKey, subject: u16) -> Dropping
 {
     let n = s.defuncts;
     let mut i: usize = 0;
-    while i < 128 {
+    while i < LockState::DEFUNCT {
         if n <= i {
             return Dropping::Absent;
         }

@@ -127,7 +127,7 @@ fn defunct(s: LockState, d: DefunctLock) {
 fn actives(s: LockState) {
     let t = s.active;
     let mut i: usize = 0;
-    while i < 64 {
+    while i < LockState::ACTIVE {
         if i < s.actives {
             active(t[i]);
         }
@@ -138,7 +138,7 @@ fn actives(s: LockState) {
 fn defuncts(s: LockState) {
     let t = s.defunct;
     let mut i: usize = 0;
-    while i < 128 {
+    while i < LockState::DEFUNCT {
         if i < s.defuncts {
             defunct(s, t[i]);
         }

@@ -177,7 +177,7 @@ fn count_lines(counts: [u64; 15]) {
 }
 
 fn sweep(image: &mut [u8]) {
-    let mut out = [0u8; 19156];
+    let mut out = [0u8; image::LONGEST];
     let b = bytes(image, &mut out);
     let t = cuts(begun(b), image, &mut out);
     line(b"cuts ", image.len() as u64, t.sum);
