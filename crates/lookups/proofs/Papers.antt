@@ -13,6 +13,8 @@ use Rattle.state.specs.declared.ScopeKey.the-variants.{Vehicle, Ecu, Functional
 use Rattle.state.specs.declared.Lock.{Lock}
 use Rattle.state.specs.declared.ActiveLock.{ActiveLock}
 use Rattle.state.specs.declared.DefunctLock.{DefunctLock}
+use Rattle.rules.specs.declared.Verdict.{Verdict}
+use Rattle.rules.specs.declared.Verdict.the-variants.{Sound, Broken}
 use Rattle.lookups.specs.declared.FoundActive.{FoundActive}
 use Rattle.lookups.specs.declared.FoundActive.the-variants as active
 use Rattle.lookups.specs.declared.FoundDefunct.{FoundDefunct}
@@ -29,7 +31,7 @@ use Rattle.lookups.specs.declared.Needed.{Needed}
 use Rattle.lookups.specs.declared.Needed.the-variants as needed
 use Rattle.lookups.specs.declared.Holder.{Holder}
 use Rattle.lookups.specs.declared.Holder.the-variants as holder
-use Rattle.lookups.specs.Papers.{Paper, flagValue, foundActivePaper, foundDefunctPaper, revisionPaper, truthPaper, listedPaper, neededPaper, holderPaper}
+use Rattle.lookups.specs.Papers.{Paper, flagValue, verdictPaper, foundActivePaper, foundDefunctPaper, revisionPaper, truthPaper, listedPaper, neededPaper, holderPaper}
 
 -- ---- reading a paper: what stands beside a number in a table, and the values by their places
 module _ {A : Type 0} where
@@ -56,6 +58,18 @@ flag-back false = refl
 
 abbrev scopeOf : ℕ → ℕ → ScopeKey
 scopeOf k n = pick k ((1, Ecu n) ∷ (2, FunctionalGroup n) ∷ []) Vehicle
+
+-- ---- the test of a state
+verdictOf : Paper → Verdict
+verdictOf p = pick (p .number) ((12, Broken (valueAt p 0)) ∷ []) Sound
+
+verdict-back : (v : Verdict) → verdictOf (verdictPaper v) ≡ v
+unfolding verdictOf verdictPaper
+verdict-back Sound = refl
+verdict-back (Broken n) = refl
+
+pub verdict-one : (a b : Verdict) → verdictPaper a ≡ verdictPaper b → a ≡ b
+verdict-one = one-to-one verdictPaper verdictOf verdict-back
 
 -- ---- locks: the flags are read back, once the scope stands
 abbrev lockWith : Lock → ScopeKey → Bool → Bool → Lock

@@ -10,6 +10,8 @@ use Rattle.state.specs.declared.ScopeKey.the-variants.{Vehicle, Ecu, Functional
 use Rattle.state.specs.declared.Lock.{Lock}
 use Rattle.state.specs.declared.ActiveLock.{ActiveLock}
 use Rattle.state.specs.declared.DefunctLock.{DefunctLock}
+use Rattle.rules.specs.declared.Verdict.{Verdict}
+use Rattle.rules.specs.declared.Verdict.the-variants.{Sound, Broken}
 use Rattle.lookups.specs.declared.FoundActive.{FoundActive}
 use Rattle.lookups.specs.declared.FoundActive.the-variants as active
 use Rattle.lookups.specs.declared.FoundDefunct.{FoundDefunct}
@@ -63,6 +65,11 @@ activeValues a = lockValues (a .lock) (a .expires ∷ (flagValue (a .child) ∷ 
 
 abbrev pub defunctValues : DefunctLock → List ℕ
 defunctValues d = lockValues (d .lock) (d .expires ∷ (d .broken ∷ (d .breaker ∷ idValues (d .target) (d .holder ∷ []))))
+
+-- ---- the test of a state: "The lowest broken rule is named."
+unfoldable pub verdictPaper : Verdict → Paper
+verdictPaper Sound = paper 0 []
+verdictPaper (Broken n) = paper 12 (n ∷ [])
 
 -- ---- the reads: a first value tells the cases of number 0 apart
 unfoldable pub foundActivePaper : FoundActive → Paper
