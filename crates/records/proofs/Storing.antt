@@ -26,7 +26,7 @@ use Rattle.records.proofs.Framing.{length-record, frame-record, body-in
 pub room : (b : Bool) (m n : ℕ) → b ≡ leb m n → not b ≡ false → m ≤ n
 room b m n e t = leb-true m n (sym e ∙ not-false b t)
 
-pub no-room : (b : Bool) (m n : ℕ) → b ≡ leb m n → not b ≡ true → n < m
+no-room : (b : Bool) (m n : ℕ) → b ≡ leb m n → not b ≡ true → n < m
 no-room b m n e t = leb-false m n (sym e ∙ not-true b t)
 
 -- length and kind
@@ -46,12 +46,12 @@ module _ {R : Type 0} (c : Codec R) (w : Lawful c) where
     length-whole : (r : R) → length (recordOf k (encodeBy c r)) ≡ total (c .layout) + 4
     length-whole r = length-record k (encodeBy c r) ∙ ap (λ (n : ℕ). n + 4) (length-body r)
 
-    pub not-stored : (s : List ℕ) (at : ℕ) (r : R) → length s < at + (total (c .layout) + 4) → s ≡ stored s at (recordOf k (encodeBy c r))
+    not-stored : (s : List ℕ) (at : ℕ) (r : R) → length s < at + (total (c .layout) + 4) → s ≡ stored s at (recordOf k (encodeBy c r))
     unfolding stored
     not-stored s at r h = sym (cond-false _ _ _ (lt-leb (at + length (recordOf k (encodeBy c r))) (length s) (omega (arith, length-whole r))))
 
     -- length, kind and body, each stored where it belongs, are the record
-    pub record-stored : (s s1 y : List ℕ) (at m : ℕ) (r : R) → at + (total (c .layout) + 4) ≤ length s
+    record-stored : (s s1 y : List ℕ) (at m : ℕ) (r : R) → at + (total (c .layout) + 4) ≤ length s
         → s1 ≡ splice s at (bytesOf (little 2) (lengthOf k) ++ bytesOf (little 2) k) → m ≡ total (c .layout) → y ≡ splice (part s1 (at + 4) m) 0 (encodeBy c r)
         → take (at + 4) s1 ++ (y ++ drop m (drop (at + 4) s1)) ≡ stored s at (recordOf k (encodeBy c r))
     unfolding stored recordOf
@@ -69,6 +69,19 @@ module _ {R : Type 0} (c : Codec R) (w : Lawful c) where
         ∙ splice-splice s at 4 (a ++ b) body ab (omega arith)
         ∙ ap (splice s at) (append-assoc a b body ∙ ap (λ (x : ℕ). bytesOf (little 2) x ++ (b ++ body)) n)
         ∙ sym (cond-true _ _ _ (le-leb (at + length (recordOf k body)) (length s) (omega (arith, length-whole r))))
+
+    -- a writer, by its test for room
+    module _ (s : List ℕ) (at : ℕ) (r : R) (b : Bool) (q : b ≡ leb (at + (total (c .layout) + 4)) (length s)) where
+      pub left-alone : not b ≡ true → s ≡ stored s at (recordOf k (encodeBy c r))
+      left-alone t = not-stored s at r (no-room b _ _ q t)
+
+      -- the body's part ends where the record does
+      abbrev size : ℕ
+      size = at + (total (c .layout) + 4) - (at + 4)
+
+      pub put-whole : not b ≡ false → (s1 y : List ℕ) → s1 ≡ splice s at (bytesOf (little 2) (lengthOf k) ++ bytesOf (little 2) k) → y ≡ splice (part s1 (at + 4) size) 0 (encodeBy c r)
+          → take (at + 4) s1 ++ (y ++ drop size (drop (at + 4) s1)) ≡ stored s at (recordOf k (encodeBy c r))
+      put-whole t s1 y e1 ey = record-stored s s1 y at size r (room b _ _ q t) e1 (omega arith) ey
 
 -- room, counted from the end
 pub from-end : (at m n : ℕ) → m ≤ n → leb at (n - m) ≡ leb (at + m) n

@@ -2,7 +2,7 @@
 use mathlib.Core.Path.{_≡_, refl, sym, ap, _∙_}
 use mathlib.Core.Bool.{Bool, true, false, not, cond, _&&_, _||_}
 use mathlib.Core.List.{List, [], _∷_}
-use Prim.Native.Nat.{ℕ, _≤_}
+use Prim.Native.Nat.{ℕ, _+_, _≤_}
 use native.Mathlib.Omega.{arith}
 use lib.ListN.{getD}
 use lib.Dec.{eqb, leb}
@@ -15,7 +15,8 @@ use Rattle.state.specs.declared.Lock.{Lock}
 use Rattle.state.specs.declared.ActiveLock.{ActiveLock}
 use Rattle.state.specs.declared.DefunctLock.{DefunctLock}
 use Rattle.records.specs.declared.bodies.Head.{Head}
-use Rattle.records.specs.Layouts.{fieldsAt}
+use Rattle.records.specs.Layouts.{total, fieldsAt}
+use Rattle.records.specs.Table.{rows, rowOf, lengthOf}
 use Rattle.records.specs.Codecs.{inBody}
 use Rattle.records.specs.Wire.{flag, scopeKind, scopeNumber, scopeOf, scopeRight, setRight, parentRight, lockStart, activeEnd, activeWith, activeRest, active, defunctEnd, defunctWith, defunctRest, defunct, head}
 use Rattle.records.proofs.Codecs.{Lawful, lawful}
@@ -172,3 +173,16 @@ active-neat a = ap (λ (b : Bool). lockStart .right (lockStart .numbers (a .lock
 
 pub defunct-neat : (d : DefunctLock) → defunct .right (defunct .numbers d) ≡ lockStart .right (lockStart .numbers (d .lock))
 defunct-neat d = and-true _
+
+-- ---- the table's lengths are the layouts'
+pub head-long : lengthOf 1 ≡ total (head .layout) + 2
+unfolding lengthOf rowOf rows
+head-long = refl
+
+pub active-long : lengthOf 2 ≡ total (active .layout) + 2
+unfolding lengthOf rowOf rows
+active-long = refl
+
+pub defunct-long : lengthOf 3 ≡ total (defunct .layout) + 2
+unfolding lengthOf rowOf rows
+defunct-long = refl

@@ -1,13 +1,13 @@
 -- Four loops read the state: two see that unused places are blank, two fill the columns and see that the locks are neat.
 -- What follows cites the functions on columns and, for each return, one law of the chain of rules. Assumes nothing.
-use mathlib.Core.Path.{_≡_, refl, sym, ap, _∙_}
-use mathlib.Core.Bool.{Bool, true, false}
-use Prim.Native.Nat.{ℕ, _+_, _-_, _*_, _≤_, _<_}
+use mathlib.Core.Path.{_≡_, sym, _∙_}
+use mathlib.Core.Bool.{true, false}
+use Prim.Native.Nat.{ℕ, _-_, _*_, _≤_, _<_}
 use native.Mathlib.Omega.{arith}
 use borrow.Author.Needs.{needs}
 use borrow.Author.Count.{below-more}
 use borrow.Author.Tests.{not-true, not-false}
-use lib.ListN.{length, getD, take, drop}
+use lib.ListN.{length, getD, drop}
 use Rattle.lists.specs.Tests.{_and_}
 use Rattle.lists.specs.Lists.{all, ascending}
 use Rattle.lists.proofs.Tests.{and-t, and-f, and-i}
@@ -15,29 +15,18 @@ use Rattle.lists.proofs.Places.{rest-yes, rest-no, first-all, first-not, from-m
 use Rattle.lists.proofs.Loops.{length-of-mapped}
 use Rattle.state.specs.declared.ActiveLock.{ActiveLock}
 use Rattle.state.specs.declared.DefunctLock.{DefunctLock}
+use Rattle.state.specs.declared.LockState.{LockState}
 use Rattle.state.specs.Locks.{akey, dkey, blankActive, blankDefunct}
 use Rattle.state.specs.Model.{modelOf}
-use Rattle.rules.specs.Rules.{isBlankA, isBlankD, blanks, inOrder, neatA, neatD, neat, rule0, rule1, rule9}
-use Rattle.rules.specs.Places.{keyAt, Sorted}
+use Rattle.rules.specs.declared.Verdict.the-variants.{Broken}
+use Rattle.rules.specs.Rules.{brokenRule, isBlankA, isBlankD, blanks, inOrder, neatA, neatD, neat, rule0, rule1, rule9}
+use Rattle.rules.specs.Places.{idAt, keyAt, Sorted}
 use Rattle.rules.specs.Code.{Columns, Entries, lowestFrom, activeRules}
 use Rattle.rules.proofs.Fill.{Filled, filled-none, filled-more, columns-of, room-of, Entered, entered-none, entered-more, entries-of, rising-law, sorted-law}
 use Rattle.rules.proofs.Rings.{one-law, ring-law}
 use Rattle.rules.proofs.Lowest.{many-active, many-defunct, not-blank, not-neat, not-ordered, rule0-yes, one-broken, some-broken, nine-broken, none-broken}
 use Rattle.rules.proofs.broken.Statement.{statement}
 use Rattle.rules.proofs.broken.Tie as tie
-use Rattle.rules.proofs.broken.Reads as reads
-use Rattle.rules.proofs.broken.Lts as lts
-use Rattle.rules.proofs.actives.lowest.Reads as lowest-reads
-use Rattle.rules.proofs.places.apart.Reads as apart-reads
-use Rattle.rules.proofs.places.rising.Reads as rising-reads
-use Rattle.rules.proofs.places.slots.Reads as slots-reads
-use Rattle.rules.proofs.scopes.number.Reads as number-reads
-use Rattle.rules.proofs.shapes.empty_active.Reads as empty-active-reads
-use Rattle.rules.proofs.shapes.empty_defunct.Reads as empty-defunct-reads
-use Rattle.rules.proofs.shapes.neat_active.Reads as neat-active-reads
-use Rattle.rules.proofs.shapes.neat_defunct.Reads as neat-defunct-reads
-use Rattle.rules.proofs.walks.leads_out.Reads as leads-out-reads
-use Rattle.rules.proofs.walks.steps.Reads as steps-reads
 
 abbrev Inv-loop : tie.InvT-loop
 Inv-loop s n m a₀ a =
@@ -71,1010 +60,336 @@ abbrev μ-loop4 : tie.MeasureT-loop4
 μ-loop4 s n m a d list parents words whole child kinds subjects i gone₀ targets₀ j₀ gone targets j =
     s .defuncts - j
 
-long-a : (c : tie.Start Inv-loop μ-loop Inv-loop2 μ-loop2 Inv-loop3 μ-loop3 Inv-loop4 μ-loop4) → length (c .args .t1 .active) ≡ 64
+-- a place or a need of the function, at these invariants
+abbrev At : ((I : tie.InvT-loop) → tie.MeasureT-loop → tie.InvT-loop2 → tie.MeasureT-loop2 → tie.InvT-loop3 → tie.MeasureT-loop3 → tie.InvT-loop4 → tie.MeasureT-loop4 → Type 0) → Type 0
+At P = P Inv-loop μ-loop Inv-loop2 μ-loop2 Inv-loop3 μ-loop3 Inv-loop4 μ-loop4
+
+-- ---- back from a place to an earlier one that is cited, and to the state
+abbrev few : (c : At tie.Else2) → At tie.Start
+few c = c .before .before
+
+abbrev else2 : (c : At tie.After-loop) → At tie.Else2
+else2 c = c .before .before
+
+abbrev loop1 : (c : At tie.After-loop2) → At tie.After-loop
+loop1 c = c .before .before
+
+abbrev loop2 : (c : At tie.After-loop3) → At tie.After-loop2
+loop2 c = c .before .before
+
+abbrev loop3 : (c : At tie.After-loop4) → At tie.After-loop3
+loop3 c = c .before .before
+
+abbrev loop4 : (c : At tie.Else7) → At tie.After-loop4
+loop4 c = c .before .before .before
+
+abbrev else7 : (c : At tie.Else8) → At tie.Else7
+else7 c = c .before .before .before
+
+abbrev else8 : (c : At tie.After-slots) → At tie.Else8
+else8 c = c .before .before
+
+abbrev slots : (c : At tie.After-apart) → At tie.After-slots
+slots c = c .before .before .before .before
+
+abbrev else9 : (c : At tie.After-lowest) → At tie.Else9
+else9 c = c .before .before .before .before .before .before .before .before
+
+abbrev else10 : (c : At tie.After-leads-out) → At tie.Else10
+else10 c = c .before .before .before .before .before
+
+abbrev read9 : (c : At tie.Else9) → At tie.After-loop3
+read9 c = loop3 (loop4 (else7 (else8 (slots (c .before)))))
+
+abbrev s0 : (c : At tie.Start) → LockState
+s0 c = c .args .t1
+
+abbrev s1 : (c : At tie.After-loop) → LockState
+s1 c = s0 (few (else2 c))
+
+abbrev s2 : (c : At tie.After-loop2) → LockState
+s2 c = s1 (loop1 c)
+
+abbrev s3 : (c : At tie.After-loop3) → LockState
+s3 c = s2 (loop2 c)
+
+abbrev s4 : (c : At tie.After-loop4) → LockState
+s4 c = s3 (loop3 c)
+
+abbrev s7 : (c : At tie.Else7) → LockState
+s7 c = s4 (loop4 c)
+
+abbrev s8 : (c : At tie.Else8) → LockState
+s8 c = s7 (else7 c)
+
+abbrev s9 : (c : At tie.Else9) → LockState
+s9 c = s8 (else8 (slots (c .before)))
+
+abbrev s10 : (c : At tie.Else10) → LockState
+s10 c = s9 (else9 (c .before))
+
+-- ---- lengths and counts
+long-a : (c : At tie.Start) → length (s0 c .active) ≡ 64
 long-a c = search (needs, length-of-mapped)
 
-long-d : (c : tie.Start Inv-loop μ-loop Inv-loop2 μ-loop2 Inv-loop3 μ-loop3 Inv-loop4 μ-loop4) → length (c .args .t1 .defunct) ≡ 128
+long-d : (c : At tie.Start) → length (s0 c .defunct) ≡ 128
 long-d c = search (needs, length-of-mapped)
 
+fits-a : (c : At tie.Else2) → s0 (few c) .actives ≤ length (s0 (few c) .active)
+fits-a c = omega (arith, long-a (few c))
+
+fits-d : (c : At tie.Else2) → s0 (few c) .defuncts ≤ length (s0 (few c) .defunct)
+fits-d c = omega (arith, long-d (few c))
+
+few-d : (c : At tie.After-loop4) → s4 c .defuncts ≤ 128
+few-d c = else2 (loop1 (loop2 (loop3 c))) .if2 .left
+
+room-a : (c : At tie.After-loop4) → 2 * s4 c .actives ≤ length (loop3 c .before .loop3 .list)
+room-a c = omega (arith, loop3 c .before .loop3 .inv .1 .list-long, else2 (loop1 (loop2 (loop3 c))) .before .if1 .left)
+
+room-d : (c : At tie.After-loop4) → 2 * s4 c .defuncts ≤ length (c .before .loop4 .gone)
+room-d c = omega (arith, c .before .loop4 .inv .1 .gone-long, few-d c)
+
+room-t : (c : At tie.After-loop4) → 2 * s4 c .defuncts ≤ length (c .before .loop4 .targets)
+room-t c = omega (arith, c .before .loop4 .inv .1 .targets-long, few-d c)
+
+ids-a : (c : At tie.After-loop3) (j : ℕ) → j < s3 c .actives → idAt (c .before .loop3 .list) j ≡ getD (s3 c .active) j blankActive .lock .id
+ids-a c j h = c .before .loop3 .inv .1 .in-list j (omega arith)
+
+ids-d : (c : At tie.After-loop4) (j : ℕ) → j < s4 c .defuncts → idAt (c .before .loop4 .gone) j ≡ getD (s4 c .defunct) j blankDefunct .lock .id
+ids-d c j h = c .before .loop4 .inv .1 .in-gone j (omega arith)
+
 -- ---- what holds after each loop
-blank-a : (c : tie.After-loop Inv-loop μ-loop Inv-loop2 μ-loop2 Inv-loop3 μ-loop3 Inv-loop4 μ-loop4) → all isBlankA (drop (c .before .before .before .before .args .t1 .actives) (c .before .before .before .before .args .t1 .active)) ≡ true
-blank-a c =
-    let s = c .before .before .before .before .args .t1 in
-    rest-yes isBlankA (s .active) (s .actives) blankActive (λ i h g. c .before .loop .inv .2 i h (omega (arith, long-a (c .before .before .before .before))))
+blank-a : (c : At tie.After-loop) → all isBlankA (drop (s1 c .actives) (s1 c .active)) ≡ true
+blank-a c = rest-yes isBlankA (s1 c .active) (s1 c .actives) blankActive (λ i h g. c .before .loop .inv .2 i h (omega (arith, long-a (few (else2 c)))))
 
-blank : (c : tie.After-loop2 Inv-loop μ-loop Inv-loop2 μ-loop2 Inv-loop3 μ-loop3 Inv-loop4 μ-loop4) → blanks (c .before .before .before .before .before .before .args .t1) ≡ true
+blank-d : (c : At tie.After-loop2) → all isBlankD (drop (s2 c .defuncts) (s2 c .defunct)) ≡ true
+blank-d c = rest-yes isBlankD (s2 c .defunct) (s2 c .defuncts) blankDefunct (λ i h g. c .before .loop2 .inv .2 i h (omega (arith, long-d (few (else2 (loop1 c))))))
+
+blank : (c : At tie.After-loop2) → blanks (s2 c) ≡ true
 unfolding blanks
-blank c =
-    let s = c .before .before .before .before .before .before .args .t1 in
-    and-i _ _ (blank-a (c .before .before)) (rest-yes isBlankD (s .defunct) (s .defuncts) blankDefunct (λ i h g. c .before .loop2 .inv .2 i h (omega (arith, long-d (c .before .before .before .before .before .before)))))
+blank c = and-i _ _ (blank-a (loop1 c)) (blank-d c)
 
-neat-a : (c : tie.After-loop3 Inv-loop μ-loop Inv-loop2 μ-loop2 Inv-loop3 μ-loop3 Inv-loop4 μ-loop4) → all neatA (modelOf (c .before .before .before .before .before .before .before .before .args .t1) .active) ≡ true
-neat-a c =
-    let s = c .before .before .before .before .before .before .before .before .args .t1 in
-    first-all neatA (s .active) (s .actives) blankActive (omega (arith, long-a (c .before .before .before .before .before .before .before .before))) (λ i h. c .before .loop3 .inv .2 i (omega arith))
+neat-a : (c : At tie.After-loop3) → all neatA (modelOf (s3 c) .active) ≡ true
+neat-a c = first-all neatA (s3 c .active) (s3 c .actives) blankActive (fits-a (else2 (loop1 (loop2 c)))) (λ i h. c .before .loop3 .inv .2 i (omega arith))
 
-all-neat : (c : tie.After-loop4 Inv-loop μ-loop Inv-loop2 μ-loop2 Inv-loop3 μ-loop3 Inv-loop4 μ-loop4) → neat (modelOf (c .before .before .before .before .before .before .before .before .before .before .args .t1)) ≡ true
+neat-d : (c : At tie.After-loop4) → all neatD (modelOf (s4 c) .defunct) ≡ true
+neat-d c = first-all neatD (s4 c .defunct) (s4 c .defuncts) blankDefunct (fits-d (else2 (loop1 (loop2 (loop3 c))))) (λ i h. c .before .loop4 .inv .2 i (omega arith))
+
+all-neat : (c : At tie.After-loop4) → neat (modelOf (s4 c)) ≡ true
 unfolding neat
-all-neat c =
-    let s = c .before .before .before .before .before .before .before .before .before .before .args .t1 in
-    and-i _ _ (neat-a (c .before .before)) (first-all neatD (s .defunct) (s .defuncts) blankDefunct (omega (arith, long-d (c .before .before .before .before .before .before .before .before .before .before))) (λ i h. c .before .loop4 .inv .2 i (omega arith)))
+all-neat c = and-i _ _ (neat-a (loop3 c)) (neat-d c)
 
-full-a : (c : tie.After-loop3 Inv-loop μ-loop Inv-loop2 μ-loop2 Inv-loop3 μ-loop3 Inv-loop4 μ-loop4) → c .before .loop3 .i ≡ c .before .before .before .before .before .before .before .before .args .t1 .actives
+full-a : (c : At tie.After-loop3) → c .before .loop3 .i ≡ s3 c .actives
 full-a c = omega arith
 
-full-d : (c : tie.After-loop4 Inv-loop μ-loop Inv-loop2 μ-loop2 Inv-loop3 μ-loop3 Inv-loop4 μ-loop4) → c .before .loop4 .j ≡ c .before .before .before .before .before .before .before .before .before .before .args .t1 .defuncts
+full-d : (c : At tie.After-loop4) → c .before .loop4 .j ≡ s4 c .defuncts
 full-d c = omega arith
 
-columns : (c : tie.After-loop3 Inv-loop μ-loop Inv-loop2 μ-loop2 Inv-loop3 μ-loop3 Inv-loop4 μ-loop4) → Columns (modelOf (c .before .before .before .before .before .before .before .before .args .t1) .active) (c .before .before .before .before .before .before .before .before .args .t1 .actives) (c .before .loop3 .list) (c .before .loop3 .parents) (c .before .loop3 .words) (c .before .loop3 .whole) (c .before .loop3 .child) (c .before .loop3 .kinds) (c .before .loop3 .subjects)
-columns c = columns-of _ _ _ _ _ _ _ _ _ (c .before .loop3 .inv .1) (c .before .before .before .before .before .before .before .before .args .t1 .actives) (full-a c) (omega (arith, long-a (c .before .before .before .before .before .before .before .before)))
+columns : (c : At tie.After-loop3) → Columns (modelOf (s3 c) .active) (s3 c .actives) (c .before .loop3 .list) (c .before .loop3 .parents) (c .before .loop3 .words) (c .before .loop3 .whole) (c .before .loop3 .child) (c .before .loop3 .kinds) (c .before .loop3 .subjects)
+columns c = columns-of _ _ _ _ _ _ _ _ _ (c .before .loop3 .inv .1) (s3 c .actives) (full-a c) (fits-a (else2 (loop1 (loop2 c))))
 
-entries : (c : tie.After-loop4 Inv-loop μ-loop Inv-loop2 μ-loop2 Inv-loop3 μ-loop3 Inv-loop4 μ-loop4) → Entries (modelOf (c .before .before .before .before .before .before .before .before .before .before .args .t1) .defunct) (c .before .before .before .before .before .before .before .before .before .before .args .t1 .defuncts) (c .before .loop4 .gone) (c .before .loop4 .targets)
-entries c = entries-of _ _ _ _ (c .before .loop4 .inv .1) (c .before .before .before .before .before .before .before .before .before .before .args .t1 .defuncts) (full-d c) (omega (arith, long-d (c .before .before .before .before .before .before .before .before .before .before)))
+entries : (c : At tie.After-loop4) → Entries (modelOf (s4 c) .defunct) (s4 c .defuncts) (c .before .loop4 .gone) (c .before .loop4 .targets)
+entries c = entries-of _ _ _ _ (c .before .loop4 .inv .1) (s4 c .defuncts) (full-d c) (fits-d (else2 (loop1 (loop2 (loop3 c)))))
+
+-- ---- rule 0 is broken, past the tests that come first
+bad-blank : (c : At tie.Else2) → blanks (s0 (few c)) ≡ false → Broken 0 ≡ brokenRule (s0 (few c))
+bad-blank c = not-blank (s0 (few c)) (c .before .if1 .left) (c .if2 .left)
+
+bad-part : (c : At tie.After-loop2) → neat (modelOf (s2 c)) ≡ false → Broken 0 ≡ brokenRule (s2 c)
+bad-part c = not-neat (s2 c) (else2 (loop1 c) .before .if1 .left) (else2 (loop1 c) .if2 .left) (blank c)
+
+bad-order : (c : At tie.After-loop2) → inOrder (modelOf (s2 c)) ≡ false → Broken 0 ≡ brokenRule (s2 c)
+bad-order c = not-ordered (s2 c) (else2 (loop1 c) .before .if1 .left) (else2 (loop1 c) .if2 .left) (blank c)
 
 -- ---- order
-order-a : (c : tie.After-rising Inv-loop μ-loop Inv-loop2 μ-loop2 Inv-loop3 μ-loop3 Inv-loop4 μ-loop4) → c .rising .result ≡ ascending akey (modelOf (c .before .before .before .before .before .before .before .before .before .before .before .before .args .t1) .active)
+order-a : (c : At tie.After-rising) → c .rising .result ≡ ascending akey (modelOf (s4 (c .before .before)) .active)
 order-a c =
-    let o = c .before .before .before .before in
-    let s = c .before .before .before .before .before .before .before .before .before .before .before .before .args .t1 in
-    rising-law (λ (x : ActiveLock). x .lock .id) (s .active) (s .actives) blankActive (o .before .loop3 .list) (omega (arith, long-a (c .before .before .before .before .before .before .before .before .before .before .before .before)))
-    (λ j h. o .before .loop3 .inv .1 .in-list j (omega (arith, full-a o))) (c .rising .result) (c .rising .ensures)
+    let o = loop3 (c .before .before) in
+    rising-law (λ (x : ActiveLock). x .lock .id) (s3 o .active) (s3 o .actives) blankActive (o .before .loop3 .list) (fits-a (else2 (loop1 (loop2 o)))) (ids-a o) (c .rising .result) (c .rising .ensures)
 
-order-d : (c : tie.After-rising2 Inv-loop μ-loop Inv-loop2 μ-loop2 Inv-loop3 μ-loop3 Inv-loop4 μ-loop4) → c .rising2 .result ≡ ascending dkey (modelOf (c .before .before .before .before .before .before .before .before .before .before .before .before .before .before .before .args .t1) .defunct)
+order-d : (c : At tie.After-rising2) → c .rising2 .result ≡ ascending dkey (modelOf (s7 (c .before .before)) .defunct)
 order-d c =
-    let o = c .before .before .before .before .before in
-    let s = c .before .before .before .before .before .before .before .before .before .before .before .before .before .before .before .args .t1 in
-    rising-law (λ (x : DefunctLock). x .lock .id) (s .defunct) (s .defuncts) blankDefunct (o .before .loop4 .gone) (omega (arith, long-d (c .before .before .before .before .before .before .before .before .before .before .before .before .before .before .before)))
-    (λ j h. o .before .loop4 .inv .1 .in-gone j (omega (arith, full-d o))) (c .rising2 .result) (c .rising2 .ensures)
+    let o = loop4 (c .before .before) in
+    rising-law (λ (x : DefunctLock). x .lock .id) (s4 o .defunct) (s4 o .defuncts) blankDefunct (o .before .loop4 .gone) (fits-d (else2 (loop1 (loop2 (loop3 o))))) (ids-d o) (c .rising2 .result) (c .rising2 .ensures)
 
-up-a : (c : tie.Else7 Inv-loop μ-loop Inv-loop2 μ-loop2 Inv-loop3 μ-loop3 Inv-loop4 μ-loop4) → ascending akey (modelOf (c .before .before .before .before .before .before .before .before .before .before .before .before .before .args .t1) .active) ≡ true
+up-a : (c : At tie.Else7) → ascending akey (modelOf (s7 c) .active) ≡ true
 up-a c = sym (order-a (c .before)) ∙ not-false _ (c .if7 .left)
 
-up-d : (c : tie.Else8 Inv-loop μ-loop Inv-loop2 μ-loop2 Inv-loop3 μ-loop3 Inv-loop4 μ-loop4) → ascending dkey (modelOf (c .before .before .before .before .before .before .before .before .before .before .before .before .before .before .before .before .args .t1) .defunct) ≡ true
+up-d : (c : At tie.Else8) → ascending dkey (modelOf (s8 c) .defunct) ≡ true
 up-d c = sym (order-d (c .before)) ∙ not-false _ (c .if8 .left)
 
-sorted-a : (c : tie.Else7 Inv-loop μ-loop Inv-loop2 μ-loop2 Inv-loop3 μ-loop3 Inv-loop4 μ-loop4) → Sorted (keyAt (c .before .before .before .before .before .before .loop3 .list)) (c .before .before .before .before .before .before .before .before .before .before .before .before .before .args .t1 .actives)
+sorted-a : (c : At tie.Else7) → Sorted (keyAt (loop3 (loop4 c) .before .loop3 .list)) (s7 c .actives)
 sorted-a c =
-    let o = c .before .before .before .before .before in
-    let s = c .before .before .before .before .before .before .before .before .before .before .before .before .before .args .t1 in
-    sorted-law (λ (x : ActiveLock). x .lock .id) (s .active) (s .actives) blankActive (o .before .loop3 .list) (omega (arith, long-a (c .before .before .before .before .before .before .before .before .before .before .before .before .before)))
-    (λ j h. o .before .loop3 .inv .1 .in-list j (omega (arith, full-a o))) (up-a c)
+    let o = loop3 (loop4 c) in
+    sorted-law (λ (x : ActiveLock). x .lock .id) (s3 o .active) (s3 o .actives) blankActive (o .before .loop3 .list) (fits-a (else2 (loop1 (loop2 o)))) (ids-a o) (up-a c)
 
-sorted-d : (c : tie.Else8 Inv-loop μ-loop Inv-loop2 μ-loop2 Inv-loop3 μ-loop3 Inv-loop4 μ-loop4) → Sorted (keyAt (c .before .before .before .before .before .before .before .loop4 .gone)) (c .before .before .before .before .before .before .before .before .before .before .before .before .before .before .before .before .args .t1 .defuncts)
+sorted-d : (c : At tie.Else8) → Sorted (keyAt (loop4 (else7 c) .before .loop4 .gone)) (s8 c .defuncts)
 sorted-d c =
-    let o = c .before .before .before .before .before .before in
-    let s = c .before .before .before .before .before .before .before .before .before .before .before .before .before .before .before .before .args .t1 in
-    sorted-law (λ (x : DefunctLock). x .lock .id) (s .defunct) (s .defuncts) blankDefunct (o .before .loop4 .gone) (omega (arith, long-d (c .before .before .before .before .before .before .before .before .before .before .before .before .before .before .before .before)))
-    (λ j h. o .before .loop4 .inv .1 .in-gone j (omega (arith, full-d o))) (up-d c)
+    let o = loop4 (else7 c) in
+    sorted-law (λ (x : DefunctLock). x .lock .id) (s4 o .defunct) (s4 o .defuncts) blankDefunct (o .before .loop4 .gone) (fits-d (else2 (loop1 (loop2 (loop3 o))))) (ids-d o) (up-d c)
 
 -- ---- the rules passed
-zero : (c : tie.Else8 Inv-loop μ-loop Inv-loop2 μ-loop2 Inv-loop3 μ-loop3 Inv-loop4 μ-loop4) → rule0 (c .before .before .before .before .before .before .before .before .before .before .before .before .before .before .before .before .args .t1) ≡ true
+zero : (c : At tie.Else8) → rule0 (s8 c) ≡ true
 unfolding inOrder
 zero c =
-    rule0-yes (c .before .before .before .before .before .before .before .before .before .before .before .before .before .before .before .before .args .t1) (c .before .before .before .before .before .before .before .before .before .before .before .before .before .before .before .if1 .left) (c .before .before .before .before .before .before .before .before .before .before .before .before .before .before .if2 .left) (blank (c .before .before .before .before .before .before .before .before .before .before)) (and-i _ _ (up-a (c .before .before .before)) (up-d c)) (all-neat (c .before .before .before .before .before .before))
+    let o = loop4 (else7 c) in
+    let f = else2 (loop1 (loop2 (loop3 o))) in
+    rule0-yes (s8 c) (f .before .if1 .left) (f .if2 .left) (blank (loop2 (loop3 o))) (and-i _ _ (up-a (else7 c)) (up-d c)) (all-neat o)
 
-one-is : (c : tie.After-apart Inv-loop μ-loop Inv-loop2 μ-loop2 Inv-loop3 μ-loop3 Inv-loop4 μ-loop4) → c .apart .result ≡ rule1 (modelOf (c .before .before .before .before .before .before .before .before .before .before .before .before .before .before .before .before .before .before .before .before .before .before .args .t1))
-one-is c = c .apart .ensures ∙ sym (one-law (modelOf (c .before .before .before .before .before .before .before .before .before .before .before .before .before .before .before .before .before .before .before .before .before .before .args .t1)) _ _ _ _ _ _ _ _ _ _ _ (columns (c .before .before .before .before .before .before .before .before .before .before .before .before .before .before)) (entries (c .before .before .before .before .before .before .before .before .before .before .before .before)))
+one-is : (c : At tie.After-apart) → c .apart .result ≡ rule1 (modelOf (s8 (else8 (slots c))))
+one-is c =
+    let o = loop4 (else7 (else8 (slots c))) in
+    c .apart .ensures ∙ sym (one-law (modelOf (s4 o)) _ _ _ _ _ _ _ _ _ _ _ (columns (loop3 o)) (entries o))
 
-one-yes : (c : tie.Else9 Inv-loop μ-loop Inv-loop2 μ-loop2 Inv-loop3 μ-loop3 Inv-loop4 μ-loop4) → rule1 (modelOf (c .before .before .before .before .before .before .before .before .before .before .before .before .before .before .before .before .before .before .before .before .before .before .before .args .t1)) ≡ true
+one-yes : (c : At tie.Else9) → rule1 (modelOf (s9 c)) ≡ true
 one-yes c = sym (one-is (c .before)) ∙ not-false _ (c .if9 .left)
 
-low-is : (c : tie.After-lowest Inv-loop μ-loop Inv-loop2 μ-loop2 Inv-loop3 μ-loop3 Inv-loop4 μ-loop4) → c .lowest .result ≡ lowestFrom 2 (activeRules (modelOf (c .before .before .before .before .before .before .before .before .before .before .before .before .before .before .before .before .before .before .before .before .before .before .before .before .before .before .before .before .before .before .before .args .t1)))
-low-is c = c .lowest .ensures (modelOf (c .before .before .before .before .before .before .before .before .before .before .before .before .before .before .before .before .before .before .before .before .before .before .before .before .before .before .before .before .before .before .before .args .t1)) (columns (c .before .before .before .before .before .before .before .before .before .before .before .before .before .before .before .before .before .before .before .before .before .before .before)) (up-a (c .before .before .before .before .before .before .before .before .before .before .before .before .before .before .before .before .before .before))
+low-is : (c : At tie.After-lowest) → c .lowest .result ≡ lowestFrom 2 (activeRules (modelOf (s9 (else9 c))))
+low-is c =
+    let o = else7 (else8 (slots (else9 c .before))) in
+    c .lowest .ensures (modelOf (s7 o)) (columns (loop3 (loop4 o))) (up-a o)
 
-nine-is : (c : tie.After-leads-out Inv-loop μ-loop Inv-loop2 μ-loop2 Inv-loop3 μ-loop3 Inv-loop4 μ-loop4) → c .leads-out .result ≡ rule9 (modelOf (c .before .before .before .before .before .before .before .before .before .before .before .before .before .before .before .before .before .before .before .before .before .before .before .before .before .before .before .before .before .before .before .before .before .before .before .before .before .args .t1))
-nine-is c = ring-law (modelOf (c .before .before .before .before .before .before .before .before .before .before .before .before .before .before .before .before .before .before .before .before .before .before .before .before .before .before .before .before .before .before .before .before .before .before .before .before .before .args .t1)) _ _ _ _ (entries (c .before .before .before .before .before .before .before .before .before .before .before .before .before .before .before .before .before .before .before .before .before .before .before .before .before .before .before)) (up-d (c .before .before .before .before .before .before .before .before .before .before .before .before .before .before .before .before .before .before .before .before .before)) (c .before .steps .ensures) (c .leads-out .result) (c .leads-out .ensures)
+nine-is : (c : At tie.After-leads-out) → c .leads-out .result ≡ rule9 (modelOf (s10 (else10 c)))
+nine-is c =
+    let o = else8 (slots (else9 (else10 c .before) .before)) in
+    ring-law (modelOf (s8 o)) _ _ _ _ (entries (loop4 (else7 o))) (up-d o) (c .before .steps .ensures) (c .leads-out .result) (c .leads-out .ensures)
 
--- src/lib.rt:29:9
-returns : tie.Need-returns Inv-loop μ-loop Inv-loop2 μ-loop2 Inv-loop3 μ-loop3 Inv-loop4 μ-loop4
+-- ---- the returns and the loops, in the code's order
+returns : At tie.Need-returns
 returns c = many-active (c .before .args .t1) (c .if1 .taken)
 
--- src/lib.rt:32:9
-returns-2 :
-    tie.Need-returns-2 Inv-loop μ-loop Inv-loop2 μ-loop2 Inv-loop3 μ-loop3 Inv-loop4 μ-loop4
+returns-2 : At tie.Need-returns-2
 returns-2 c = many-defunct (c .before .before .args .t1) (c .before .if1 .left) (c .if2 .taken)
 
--- src/lib.rt:35:5
-loop-holds :
-    tie.Need-loop-holds Inv-loop μ-loop Inv-loop2 μ-loop2 Inv-loop3 μ-loop3 Inv-loop4 μ-loop4
+loop-holds : At tie.Need-loop-holds
 loop-holds c = (omega arith, omega arith, λ k h g. absurd (omega arith))
 
--- src/lib.rt:36:17
-mul-x : tie.Need-mul-x Inv-loop μ-loop Inv-loop2 μ-loop2 Inv-loop3 μ-loop3 Inv-loop4 μ-loop4
-mul-x c = omega arith
-
--- src/lib.rt:36:17
-element-copy-out-x :
-    tie.Need-element-copy-out-x
-    Inv-loop
-    μ-loop
-    Inv-loop2
-    μ-loop2
-    Inv-loop3
-    μ-loop3
-    Inv-loop4
-    μ-loop4
-element-copy-out-x c = omega arith
-
--- src/lib.rt:37:13
-empty-active-requires :
-    tie.Need-empty-active-requires
-    Inv-loop
-    μ-loop
-    Inv-loop2
-    μ-loop2
-    Inv-loop3
-    μ-loop3
-    Inv-loop4
-    μ-loop4
-empty-active-requires c κs = tt
-
--- src/lib.rt:38:13
-returns-3 :
-    tie.Need-returns-3 Inv-loop μ-loop Inv-loop2 μ-loop2 Inv-loop3 μ-loop3 Inv-loop4 μ-loop4
+returns-3 : At tie.Need-returns-3
 unfolding blanks blankActive
 returns-3 c =
-    let s = c .before .before .before .before .before .before .before .args .t1 in
-    not-blank s (c .before .before .before .before .before .before .if1 .left) (c .before .before .before .before .before .if2 .left) (and-f _ _ (rest-no isBlankA (s .active) (s .actives) blankActive (c .before .before .before .before .loop .a) (omega arith) (omega (arith, long-a (c .before .before .before .before .before .before .before))) (sym (c .before .empty-active .ensures) ∙ not-true _ (c .if3 .taken))))
+    let o = c .before .before .before .before in
+    let s = s0 (few (o .before)) in
+    bad-blank (o .before) (and-f _ _ (rest-no isBlankA (s .active) (s .actives) blankActive (o .loop .a) (omega arith) (omega (arith, long-a (few (o .before)))) (sym (c .before .empty-active .ensures) ∙ not-true _ (c .if3 .taken))))
 
--- src/lib.rt:40:9
-add-a : tie.Need-add-a Inv-loop μ-loop Inv-loop2 μ-loop2 Inv-loop3 μ-loop3 Inv-loop4 μ-loop4
-add-a c = omega arith
-
--- src/lib.rt:35:5
-loop-less :
-    tie.Need-loop-less Inv-loop μ-loop Inv-loop2 μ-loop2 Inv-loop3 μ-loop3 Inv-loop4 μ-loop4
-loop-less c = omega arith
-
--- src/lib.rt:35:5
-loop-again :
-    tie.Need-loop-again Inv-loop μ-loop Inv-loop2 μ-loop2 Inv-loop3 μ-loop3 Inv-loop4 μ-loop4
+loop-again : At tie.Need-loop-again
 unfolding blankActive
 loop-again c =
     let o = c .before .before .before .before in
-    let s = c .before .before .before .before .before .before .before .args .t1 in
+    let s = s0 (few (o .before)) in
     (omega arith, omega arith, from-more (λ k. isBlankA (getD (s .active) k blankActive) ≡ true) (s .actives) (o .loop .a) (o .loop .inv .2) (sym (c .before .empty-active .ensures) ∙ not-false _ (c .if3 .left)))
 
--- src/lib.rt:43:5
-loop2-holds :
-    tie.Need-loop2-holds Inv-loop μ-loop Inv-loop2 μ-loop2 Inv-loop3 μ-loop3 Inv-loop4 μ-loop4
+loop2-holds : At tie.Need-loop2-holds
 loop2-holds c = (omega arith, omega arith, λ k h g. absurd (omega arith))
 
--- src/lib.rt:44:17
-mul-y : tie.Need-mul-y Inv-loop μ-loop Inv-loop2 μ-loop2 Inv-loop3 μ-loop3 Inv-loop4 μ-loop4
-mul-y c = omega arith
-
--- src/lib.rt:44:17
-element-copy-out-y :
-    tie.Need-element-copy-out-y
-    Inv-loop
-    μ-loop
-    Inv-loop2
-    μ-loop2
-    Inv-loop3
-    μ-loop3
-    Inv-loop4
-    μ-loop4
-element-copy-out-y c = omega arith
-
--- src/lib.rt:45:13
-empty-defunct-requires :
-    tie.Need-empty-defunct-requires
-    Inv-loop
-    μ-loop
-    Inv-loop2
-    μ-loop2
-    Inv-loop3
-    μ-loop3
-    Inv-loop4
-    μ-loop4
-empty-defunct-requires c κs = tt
-
--- src/lib.rt:46:13
-returns-4 :
-    tie.Need-returns-4 Inv-loop μ-loop Inv-loop2 μ-loop2 Inv-loop3 μ-loop3 Inv-loop4 μ-loop4
+returns-4 : At tie.Need-returns-4
 unfolding blanks blankDefunct
 returns-4 c =
-    let s = c .before .before .before .before .before .before .before .before .before .args .t1 in
-    not-blank s (c .before .before .before .before .before .before .before .before .if1 .left) (c .before .before .before .before .before .before .before .if2 .left)
-    (and-t _ _ (blank-a (c .before .before .before .before .before)) ∙ rest-no isBlankD (s .defunct) (s .defuncts) blankDefunct (c .before .before .before .before .loop2 .d) (omega arith) (omega (arith, long-d (c .before .before .before .before .before .before .before .before .before))) (sym (c .before .empty-defunct .ensures) ∙ not-true _ (c .if4 .taken)))
+    let o = c .before .before .before .before in
+    let s = s1 (o .before) in
+    bad-blank (else2 (o .before)) (and-t _ _ (blank-a (o .before)) ∙ rest-no isBlankD (s .defunct) (s .defuncts) blankDefunct (o .loop2 .d) (omega arith) (omega (arith, long-d (few (else2 (o .before))))) (sym (c .before .empty-defunct .ensures) ∙ not-true _ (c .if4 .taken)))
 
--- src/lib.rt:48:9
-add-d : tie.Need-add-d Inv-loop μ-loop Inv-loop2 μ-loop2 Inv-loop3 μ-loop3 Inv-loop4 μ-loop4
-add-d c = omega arith
-
--- src/lib.rt:43:5
-loop2-less :
-    tie.Need-loop2-less Inv-loop μ-loop Inv-loop2 μ-loop2 Inv-loop3 μ-loop3 Inv-loop4 μ-loop4
-loop2-less c = omega arith
-
--- src/lib.rt:43:5
-loop2-again :
-    tie.Need-loop2-again Inv-loop μ-loop Inv-loop2 μ-loop2 Inv-loop3 μ-loop3 Inv-loop4 μ-loop4
+loop2-again : At tie.Need-loop2-again
 unfolding blankDefunct
 loop2-again c =
     let o = c .before .before .before .before in
-    let s = c .before .before .before .before .before .before .before .before .before .args .t1 in
+    let s = s1 (o .before) in
     (omega arith, omega arith, from-more (λ k. isBlankD (getD (s .defunct) k blankDefunct) ≡ true) (s .defuncts) (o .loop2 .d) (o .loop2 .inv .2) (sym (c .before .empty-defunct .ensures) ∙ not-false _ (c .if4 .left)))
 
--- src/lib.rt:58:5
-loop3-holds :
-    tie.Need-loop3-holds Inv-loop μ-loop Inv-loop2 μ-loop2 Inv-loop3 μ-loop3 Inv-loop4 μ-loop4
+loop3-holds : At tie.Need-loop3-holds
 loop3-holds c = (omega arith, filled-none _, λ k h. absurd (omega arith))
 
--- src/lib.rt:59:17
-mul-x-2 : tie.Need-mul-x-2 Inv-loop μ-loop Inv-loop2 μ-loop2 Inv-loop3 μ-loop3 Inv-loop4 μ-loop4
-mul-x-2 c = omega arith
-
--- src/lib.rt:59:17
-element-copy-out-x-2 :
-    tie.Need-element-copy-out-x-2
-    Inv-loop
-    μ-loop
-    Inv-loop2
-    μ-loop2
-    Inv-loop3
-    μ-loop3
-    Inv-loop4
-    μ-loop4
-element-copy-out-x-2 c = omega arith
-
--- src/lib.rt:60:13
-neat-active-requires :
-    tie.Need-neat-active-requires
-    Inv-loop
-    μ-loop
-    Inv-loop2
-    μ-loop2
-    Inv-loop3
-    μ-loop3
-    Inv-loop4
-    μ-loop4
-neat-active-requires c κs = tt
-
--- src/lib.rt:61:13
-returns-5 :
-    tie.Need-returns-5 Inv-loop μ-loop Inv-loop2 μ-loop2 Inv-loop3 μ-loop3 Inv-loop4 μ-loop4
+returns-5 : At tie.Need-returns-5
 unfolding neat blankActive
 returns-5 c =
-    let s = c .before .before .before .before .before .before .before .before .before .before .before .args .t1 in
-    not-neat s (c .before .before .before .before .before .before .before .before .before .before .if1 .left) (c .before .before .before .before .before .before .before .before .before .if2 .left) (blank (c .before .before .before .before .before))
-    (and-f _ _ (first-not neatA (s .active) (s .actives) blankActive (omega (arith, long-a (c .before .before .before .before .before .before .before .before .before .before .before))) (c .before .before .before .before .loop3 .i) (omega arith) (sym (c .before .neat-active .ensures) ∙ not-true _ (c .if5 .taken))))
+    let o = c .before .before .before .before in
+    let s = s2 (o .before) in
+    bad-part (o .before) (and-f _ _ (first-not neatA (s .active) (s .actives) blankActive (fits-a (else2 (loop1 (o .before)))) (o .loop3 .i) (omega arith) (sym (c .before .neat-active .ensures) ∙ not-true _ (c .if5 .taken))))
 
--- src/lib.rt:66:14
-mul-list : tie.Need-mul-list Inv-loop μ-loop Inv-loop2 μ-loop2 Inv-loop3 μ-loop3 Inv-loop4 μ-loop4
-mul-list c = omega arith
-
--- src/lib.rt:66:9
-mul-list-2 :
-    tie.Need-mul-list-2 Inv-loop μ-loop Inv-loop2 μ-loop2 Inv-loop3 μ-loop3 Inv-loop4 μ-loop4
-mul-list-2 c = omega arith
-
--- src/lib.rt:66:9
-array-write-list :
-    tie.Need-array-write-list Inv-loop μ-loop Inv-loop2 μ-loop2 Inv-loop3 μ-loop3 Inv-loop4 μ-loop4
-array-write-list c = omega arith
-
--- src/lib.rt:67:14
-mul-list-3 :
-    tie.Need-mul-list-3 Inv-loop μ-loop Inv-loop2 μ-loop2 Inv-loop3 μ-loop3 Inv-loop4 μ-loop4
-mul-list-3 c = omega arith
-
--- src/lib.rt:67:14
-add-list : tie.Need-add-list Inv-loop μ-loop Inv-loop2 μ-loop2 Inv-loop3 μ-loop3 Inv-loop4 μ-loop4
-add-list c = omega arith
-
--- src/lib.rt:67:9
-mul-list-4 :
-    tie.Need-mul-list-4 Inv-loop μ-loop Inv-loop2 μ-loop2 Inv-loop3 μ-loop3 Inv-loop4 μ-loop4
-mul-list-4 c = omega arith
-
--- src/lib.rt:67:9
-array-write-list-2 :
-    tie.Need-array-write-list-2
-    Inv-loop
-    μ-loop
-    Inv-loop2
-    μ-loop2
-    Inv-loop3
-    μ-loop3
-    Inv-loop4
-    μ-loop4
-array-write-list-2 c = omega arith
-
--- src/lib.rt:68:17
-mul-parents :
-    tie.Need-mul-parents Inv-loop μ-loop Inv-loop2 μ-loop2 Inv-loop3 μ-loop3 Inv-loop4 μ-loop4
-mul-parents c = omega arith
-
--- src/lib.rt:68:9
-mul-parents-2 :
-    tie.Need-mul-parents-2 Inv-loop μ-loop Inv-loop2 μ-loop2 Inv-loop3 μ-loop3 Inv-loop4 μ-loop4
-mul-parents-2 c = omega arith
-
--- src/lib.rt:68:9
-array-write-parents :
-    tie.Need-array-write-parents
-    Inv-loop
-    μ-loop
-    Inv-loop2
-    μ-loop2
-    Inv-loop3
-    μ-loop3
-    Inv-loop4
-    μ-loop4
-array-write-parents c = omega arith
-
--- src/lib.rt:69:17
-mul-parents-3 :
-    tie.Need-mul-parents-3 Inv-loop μ-loop Inv-loop2 μ-loop2 Inv-loop3 μ-loop3 Inv-loop4 μ-loop4
-mul-parents-3 c = omega arith
-
--- src/lib.rt:69:17
-add-parents :
-    tie.Need-add-parents Inv-loop μ-loop Inv-loop2 μ-loop2 Inv-loop3 μ-loop3 Inv-loop4 μ-loop4
-add-parents c = omega arith
-
--- src/lib.rt:69:9
-mul-parents-4 :
-    tie.Need-mul-parents-4 Inv-loop μ-loop Inv-loop2 μ-loop2 Inv-loop3 μ-loop3 Inv-loop4 μ-loop4
-mul-parents-4 c = omega arith
-
--- src/lib.rt:69:9
-array-write-parents-2 :
-    tie.Need-array-write-parents-2
-    Inv-loop
-    μ-loop
-    Inv-loop2
-    μ-loop2
-    Inv-loop3
-    μ-loop3
-    Inv-loop4
-    μ-loop4
-array-write-parents-2 c = omega arith
-
--- src/lib.rt:70:15
-mul-words :
-    tie.Need-mul-words Inv-loop μ-loop Inv-loop2 μ-loop2 Inv-loop3 μ-loop3 Inv-loop4 μ-loop4
-mul-words c = omega arith
-
--- src/lib.rt:70:9
-mul-words-2 :
-    tie.Need-mul-words-2 Inv-loop μ-loop Inv-loop2 μ-loop2 Inv-loop3 μ-loop3 Inv-loop4 μ-loop4
-mul-words-2 c = omega arith
-
--- src/lib.rt:70:9
-array-write-words :
-    tie.Need-array-write-words
-    Inv-loop
-    μ-loop
-    Inv-loop2
-    μ-loop2
-    Inv-loop3
-    μ-loop3
-    Inv-loop4
-    μ-loop4
-array-write-words c = omega arith
-
--- src/lib.rt:71:15
-mul-words-3 :
-    tie.Need-mul-words-3 Inv-loop μ-loop Inv-loop2 μ-loop2 Inv-loop3 μ-loop3 Inv-loop4 μ-loop4
-mul-words-3 c = omega arith
-
--- src/lib.rt:71:15
-add-words :
-    tie.Need-add-words Inv-loop μ-loop Inv-loop2 μ-loop2 Inv-loop3 μ-loop3 Inv-loop4 μ-loop4
-add-words c = omega arith
-
--- src/lib.rt:71:9
-mul-words-4 :
-    tie.Need-mul-words-4 Inv-loop μ-loop Inv-loop2 μ-loop2 Inv-loop3 μ-loop3 Inv-loop4 μ-loop4
-mul-words-4 c = omega arith
-
--- src/lib.rt:71:9
-array-write-words-2 :
-    tie.Need-array-write-words-2
-    Inv-loop
-    μ-loop
-    Inv-loop2
-    μ-loop2
-    Inv-loop3
-    μ-loop3
-    Inv-loop4
-    μ-loop4
-array-write-words-2 c = omega arith
-
--- src/lib.rt:72:15
-mul-words-5 :
-    tie.Need-mul-words-5 Inv-loop μ-loop Inv-loop2 μ-loop2 Inv-loop3 μ-loop3 Inv-loop4 μ-loop4
-mul-words-5 c = omega arith
-
--- src/lib.rt:72:15
-add-words-2 :
-    tie.Need-add-words-2 Inv-loop μ-loop Inv-loop2 μ-loop2 Inv-loop3 μ-loop3 Inv-loop4 μ-loop4
-add-words-2 c = omega arith
-
--- src/lib.rt:72:9
-mul-words-6 :
-    tie.Need-mul-words-6 Inv-loop μ-loop Inv-loop2 μ-loop2 Inv-loop3 μ-loop3 Inv-loop4 μ-loop4
-mul-words-6 c = omega arith
-
--- src/lib.rt:72:9
-array-write-words-3 :
-    tie.Need-array-write-words-3
-    Inv-loop
-    μ-loop
-    Inv-loop2
-    μ-loop2
-    Inv-loop3
-    μ-loop3
-    Inv-loop4
-    μ-loop4
-array-write-words-3 c = omega arith
-
--- src/lib.rt:73:15
-mul-words-7 :
-    tie.Need-mul-words-7 Inv-loop μ-loop Inv-loop2 μ-loop2 Inv-loop3 μ-loop3 Inv-loop4 μ-loop4
-mul-words-7 c = omega arith
-
--- src/lib.rt:73:15
-add-words-3 :
-    tie.Need-add-words-3 Inv-loop μ-loop Inv-loop2 μ-loop2 Inv-loop3 μ-loop3 Inv-loop4 μ-loop4
-add-words-3 c = omega arith
-
--- src/lib.rt:73:9
-mul-words-8 :
-    tie.Need-mul-words-8 Inv-loop μ-loop Inv-loop2 μ-loop2 Inv-loop3 μ-loop3 Inv-loop4 μ-loop4
-mul-words-8 c = omega arith
-
--- src/lib.rt:73:9
-array-write-words-4 :
-    tie.Need-array-write-words-4
-    Inv-loop
-    μ-loop
-    Inv-loop2
-    μ-loop2
-    Inv-loop3
-    μ-loop3
-    Inv-loop4
-    μ-loop4
-array-write-words-4 c = omega arith
-
--- src/lib.rt:74:9
-array-write-whole :
-    tie.Need-array-write-whole
-    Inv-loop
-    μ-loop
-    Inv-loop2
-    μ-loop2
-    Inv-loop3
-    μ-loop3
-    Inv-loop4
-    μ-loop4
-array-write-whole c = omega arith
-
--- src/lib.rt:75:9
-array-write-child :
-    tie.Need-array-write-child
-    Inv-loop
-    μ-loop
-    Inv-loop2
-    μ-loop2
-    Inv-loop3
-    μ-loop3
-    Inv-loop4
-    μ-loop4
-array-write-child c = omega arith
-
--- src/lib.rt:76:20
-number-requires :
-    tie.Need-number-requires Inv-loop μ-loop Inv-loop2 μ-loop2 Inv-loop3 μ-loop3 Inv-loop4 μ-loop4
-number-requires c κs = tt
-
--- src/lib.rt:76:9
-mul-kinds :
-    tie.Need-mul-kinds Inv-loop μ-loop Inv-loop2 μ-loop2 Inv-loop3 μ-loop3 Inv-loop4 μ-loop4
-mul-kinds c = omega arith
-
--- src/lib.rt:76:9
-array-write-kinds :
-    tie.Need-array-write-kinds
-    Inv-loop
-    μ-loop
-    Inv-loop2
-    μ-loop2
-    Inv-loop3
-    μ-loop3
-    Inv-loop4
-    μ-loop4
-array-write-kinds c = omega arith
-
--- src/lib.rt:77:9
-mul-subjects :
-    tie.Need-mul-subjects Inv-loop μ-loop Inv-loop2 μ-loop2 Inv-loop3 μ-loop3 Inv-loop4 μ-loop4
-mul-subjects c = omega arith
-
--- src/lib.rt:77:9
-array-write-subjects :
-    tie.Need-array-write-subjects
-    Inv-loop
-    μ-loop
-    Inv-loop2
-    μ-loop2
-    Inv-loop3
-    μ-loop3
-    Inv-loop4
-    μ-loop4
-array-write-subjects c = omega arith
-
--- src/lib.rt:78:9
-add-i : tie.Need-add-i Inv-loop μ-loop Inv-loop2 μ-loop2 Inv-loop3 μ-loop3 Inv-loop4 μ-loop4
-add-i c = omega arith
-
--- src/lib.rt:58:5
-loop3-less :
-    tie.Need-loop3-less Inv-loop μ-loop Inv-loop2 μ-loop2 Inv-loop3 μ-loop3 Inv-loop4 μ-loop4
-loop3-less c = omega arith
-
--- src/lib.rt:58:5
-loop3-again :
-    tie.Need-loop3-again Inv-loop μ-loop Inv-loop2 μ-loop2 Inv-loop3 μ-loop3 Inv-loop4 μ-loop4
+loop3-again : At tie.Need-loop3-again
 unfolding blankActive
 loop3-again c =
     let o = c .before .before .before .before .before .before .before in
-    let s = c .before .before .before .before .before .before .before .before .before .before .before .before .before .before .args .t1 in (
+    let s = s2 (o .before) in (
       omega arith,
       filled-more (s .active) (o .loop3 .i) _ _ _ _ _ _ _ (o .loop3 .inv .1) (omega arith) (c .number .result) (c .number .ensures),
       below-more (λ k. neatA (getD (s .active) k blankActive) ≡ true) (o .loop3 .i) (o .loop3 .inv .2) (sym (c .before .before .before .before .neat-active .ensures) ∙ not-false _ (c .before .before .before .if5 .left)),
     )
 
--- src/lib.rt:83:5
-loop4-holds :
-    tie.Need-loop4-holds Inv-loop μ-loop Inv-loop2 μ-loop2 Inv-loop3 μ-loop3 Inv-loop4 μ-loop4
+loop4-holds : At tie.Need-loop4-holds
 loop4-holds c = (omega arith, entered-none _, λ k h. absurd (omega arith))
 
--- src/lib.rt:84:17
-mul-y-2 : tie.Need-mul-y-2 Inv-loop μ-loop Inv-loop2 μ-loop2 Inv-loop3 μ-loop3 Inv-loop4 μ-loop4
-mul-y-2 c = omega arith
-
--- src/lib.rt:84:17
-element-copy-out-y-2 :
-    tie.Need-element-copy-out-y-2
-    Inv-loop
-    μ-loop
-    Inv-loop2
-    μ-loop2
-    Inv-loop3
-    μ-loop3
-    Inv-loop4
-    μ-loop4
-element-copy-out-y-2 c = omega arith
-
--- src/lib.rt:85:13
-neat-defunct-requires :
-    tie.Need-neat-defunct-requires
-    Inv-loop
-    μ-loop
-    Inv-loop2
-    μ-loop2
-    Inv-loop3
-    μ-loop3
-    Inv-loop4
-    μ-loop4
-neat-defunct-requires c κs = tt
-
--- src/lib.rt:86:13
-returns-6 :
-    tie.Need-returns-6 Inv-loop μ-loop Inv-loop2 μ-loop2 Inv-loop3 μ-loop3 Inv-loop4 μ-loop4
+returns-6 : At tie.Need-returns-6
 unfolding neat blankDefunct
 returns-6 c =
-    let s = c .before .before .before .before .before .before .before .before .before .before .before .before .before .args .t1 in
-    not-neat s (c .before .before .before .before .before .before .before .before .before .before .before .before .if1 .left) (c .before .before .before .before .before .before .before .before .before .before .before .if2 .left) (blank (c .before .before .before .before .before .before .before))
-    (and-t _ _ (neat-a (c .before .before .before .before .before)) ∙ first-not neatD (s .defunct) (s .defuncts) blankDefunct (omega (arith, long-d (c .before .before .before .before .before .before .before .before .before .before .before .before .before))) (c .before .before .before .before .loop4 .j) (omega arith) (sym (c .before .neat-defunct .ensures) ∙ not-true _ (c .if6 .taken)))
+    let o = c .before .before .before .before in
+    let s = s3 (o .before) in
+    bad-part (loop2 (o .before)) (and-t _ _ (neat-a (o .before)) ∙ first-not neatD (s .defunct) (s .defuncts) blankDefunct (fits-d (else2 (loop1 (loop2 (o .before))))) (o .loop4 .j) (omega arith) (sym (c .before .neat-defunct .ensures) ∙ not-true _ (c .if6 .taken)))
 
--- src/lib.rt:88:14
-mul-gone : tie.Need-mul-gone Inv-loop μ-loop Inv-loop2 μ-loop2 Inv-loop3 μ-loop3 Inv-loop4 μ-loop4
-mul-gone c = omega arith
-
--- src/lib.rt:88:9
-mul-gone-2 :
-    tie.Need-mul-gone-2 Inv-loop μ-loop Inv-loop2 μ-loop2 Inv-loop3 μ-loop3 Inv-loop4 μ-loop4
-mul-gone-2 c = omega arith
-
--- src/lib.rt:88:9
-array-write-gone :
-    tie.Need-array-write-gone Inv-loop μ-loop Inv-loop2 μ-loop2 Inv-loop3 μ-loop3 Inv-loop4 μ-loop4
-array-write-gone c = omega arith
-
--- src/lib.rt:89:14
-mul-gone-3 :
-    tie.Need-mul-gone-3 Inv-loop μ-loop Inv-loop2 μ-loop2 Inv-loop3 μ-loop3 Inv-loop4 μ-loop4
-mul-gone-3 c = omega arith
-
--- src/lib.rt:89:14
-add-gone : tie.Need-add-gone Inv-loop μ-loop Inv-loop2 μ-loop2 Inv-loop3 μ-loop3 Inv-loop4 μ-loop4
-add-gone c = omega arith
-
--- src/lib.rt:89:9
-mul-gone-4 :
-    tie.Need-mul-gone-4 Inv-loop μ-loop Inv-loop2 μ-loop2 Inv-loop3 μ-loop3 Inv-loop4 μ-loop4
-mul-gone-4 c = omega arith
-
--- src/lib.rt:89:9
-array-write-gone-2 :
-    tie.Need-array-write-gone-2
-    Inv-loop
-    μ-loop
-    Inv-loop2
-    μ-loop2
-    Inv-loop3
-    μ-loop3
-    Inv-loop4
-    μ-loop4
-array-write-gone-2 c = omega arith
-
--- src/lib.rt:90:17
-mul-targets :
-    tie.Need-mul-targets Inv-loop μ-loop Inv-loop2 μ-loop2 Inv-loop3 μ-loop3 Inv-loop4 μ-loop4
-mul-targets c = omega arith
-
--- src/lib.rt:90:9
-mul-targets-2 :
-    tie.Need-mul-targets-2 Inv-loop μ-loop Inv-loop2 μ-loop2 Inv-loop3 μ-loop3 Inv-loop4 μ-loop4
-mul-targets-2 c = omega arith
-
--- src/lib.rt:90:9
-array-write-targets :
-    tie.Need-array-write-targets
-    Inv-loop
-    μ-loop
-    Inv-loop2
-    μ-loop2
-    Inv-loop3
-    μ-loop3
-    Inv-loop4
-    μ-loop4
-array-write-targets c = omega arith
-
--- src/lib.rt:91:17
-mul-targets-3 :
-    tie.Need-mul-targets-3 Inv-loop μ-loop Inv-loop2 μ-loop2 Inv-loop3 μ-loop3 Inv-loop4 μ-loop4
-mul-targets-3 c = omega arith
-
--- src/lib.rt:91:17
-add-targets :
-    tie.Need-add-targets Inv-loop μ-loop Inv-loop2 μ-loop2 Inv-loop3 μ-loop3 Inv-loop4 μ-loop4
-add-targets c = omega arith
-
--- src/lib.rt:91:9
-mul-targets-4 :
-    tie.Need-mul-targets-4 Inv-loop μ-loop Inv-loop2 μ-loop2 Inv-loop3 μ-loop3 Inv-loop4 μ-loop4
-mul-targets-4 c = omega arith
-
--- src/lib.rt:91:9
-array-write-targets-2 :
-    tie.Need-array-write-targets-2
-    Inv-loop
-    μ-loop
-    Inv-loop2
-    μ-loop2
-    Inv-loop3
-    μ-loop3
-    Inv-loop4
-    μ-loop4
-array-write-targets-2 c = omega arith
-
--- src/lib.rt:92:9
-add-j : tie.Need-add-j Inv-loop μ-loop Inv-loop2 μ-loop2 Inv-loop3 μ-loop3 Inv-loop4 μ-loop4
-add-j c = omega arith
-
--- src/lib.rt:83:5
-loop4-less :
-    tie.Need-loop4-less Inv-loop μ-loop Inv-loop2 μ-loop2 Inv-loop3 μ-loop3 Inv-loop4 μ-loop4
-loop4-less c = omega arith
-
--- src/lib.rt:83:5
-loop4-again :
-    tie.Need-loop4-again Inv-loop μ-loop Inv-loop2 μ-loop2 Inv-loop3 μ-loop3 Inv-loop4 μ-loop4
+loop4-again : At tie.Need-loop4-again
 unfolding blankDefunct
 loop4-again c =
     let o = c .before .before .before .before in
-    let s = c .before .before .before .before .before .before .before .before .before .before .before .before .before .args .t1 in (
+    let s = s3 (o .before) in (
       omega arith,
       entered-more (s .defunct) (o .loop4 .j) _ _ (o .loop4 .inv .1) (omega arith),
       below-more (λ k. neatD (getD (s .defunct) k blankDefunct) ≡ true) (o .loop4 .j) (o .loop4 .inv .2) (sym (c .before .neat-defunct .ensures) ∙ not-false _ (c .if6 .left)),
     )
 
--- src/lib.rt:94:24
-slice-aggregate-rising :
-    tie.Need-slice-aggregate-rising
-    Inv-loop
-    μ-loop
-    Inv-loop2
-    μ-loop2
-    Inv-loop3
-    μ-loop3
-    Inv-loop4
-    μ-loop4
-slice-aggregate-rising c = sym (c .before .before .before .before .loop3 .inv .1 .list-long)
-
--- src/lib.rt:94:9
-rising-requires :
-    tie.Need-rising-requires Inv-loop μ-loop Inv-loop2 μ-loop2 Inv-loop3 μ-loop3 Inv-loop4 μ-loop4
-rising-requires c κs = omega (arith, c .before .before .before .before .loop3 .inv .1 .list-long, c .before .before .before .before .before .before .before .before .before .before .if1 .left)
-
--- src/lib.rt:95:9
-returns-7 :
-    tie.Need-returns-7 Inv-loop μ-loop Inv-loop2 μ-loop2 Inv-loop3 μ-loop3 Inv-loop4 μ-loop4
+returns-7 : At tie.Need-returns-7
 unfolding inOrder
-returns-7 c = not-ordered (c .before .before .before .before .before .before .before .before .before .before .before .before .before .args .t1) (c .before .before .before .before .before .before .before .before .before .before .before .before .if1 .left) (c .before .before .before .before .before .before .before .before .before .before .before .if2 .left) (blank (c .before .before .before .before .before .before .before)) (and-f _ _ (sym (order-a (c .before)) ∙ not-true _ (c .if7 .taken)))
+returns-7 c = bad-order (loop2 (loop3 (c .before .before .before))) (and-f _ _ (sym (order-a (c .before)) ∙ not-true _ (c .if7 .taken)))
 
--- src/lib.rt:97:24
-slice-aggregate-rising-2 :
-    tie.Need-slice-aggregate-rising-2
-    Inv-loop
-    μ-loop
-    Inv-loop2
-    μ-loop2
-    Inv-loop3
-    μ-loop3
-    Inv-loop4
-    μ-loop4
-slice-aggregate-rising-2 c = sym (c .before .before .before .before .before .loop4 .inv .1 .gone-long)
-
--- src/lib.rt:97:9
-rising-requires-2 :
-    tie.Need-rising-requires-2
-    Inv-loop
-    μ-loop
-    Inv-loop2
-    μ-loop2
-    Inv-loop3
-    μ-loop3
-    Inv-loop4
-    μ-loop4
-rising-requires-2 c κs = omega (arith, c .before .before .before .before .before .loop4 .inv .1 .gone-long, c .before .before .before .before .before .before .before .before .before .before .before .before .if2 .left)
-
--- src/lib.rt:98:9
-returns-8 :
-    tie.Need-returns-8 Inv-loop μ-loop Inv-loop2 μ-loop2 Inv-loop3 μ-loop3 Inv-loop4 μ-loop4
+returns-8 : At tie.Need-returns-8
 unfolding inOrder
-returns-8 c = not-ordered (c .before .before .before .before .before .before .before .before .before .before .before .before .before .before .before .before .args .t1) (c .before .before .before .before .before .before .before .before .before .before .before .before .before .before .before .if1 .left) (c .before .before .before .before .before .before .before .before .before .before .before .before .before .before .if2 .left) (blank (c .before .before .before .before .before .before .before .before .before .before)) (and-t _ _ (up-a (c .before .before .before)) ∙ sym (order-d (c .before)) ∙ not-true _ (c .if8 .taken))
+returns-8 c =
+    let o = c .before .before .before in
+    bad-order (loop2 (loop3 (loop4 o))) (and-t _ _ (up-a o) ∙ sym (order-d (c .before)) ∙ not-true _ (c .if8 .taken))
 
--- src/lib.rt:100:31
-slice-aggregate-slots :
-    tie.Need-slice-aggregate-slots
-    Inv-loop
-    μ-loop
-    Inv-loop2
-    μ-loop2
-    Inv-loop3
-    μ-loop3
-    Inv-loop4
-    μ-loop4
-slice-aggregate-slots c = sym (c .before .before .before .before .before .before .before .before .loop4 .inv .1 .gone-long)
+slots-requires : At tie.Need-slots-requires
+slots-requires c κs =
+    let o = loop4 (else7 (c .before)) in
+    (room-d o, few-d o)
 
--- src/lib.rt:100:17
-slots-requires :
-    tie.Need-slots-requires Inv-loop μ-loop Inv-loop2 μ-loop2 Inv-loop3 μ-loop3 Inv-loop4 μ-loop4
-slots-requires c κs = (omega (arith, c .before .before .before .before .before .before .before .before .loop4 .inv .1 .gone-long, c .before .before .before .before .before .before .before .before .before .before .before .before .before .before .before .if2 .left), c .before .before .before .before .before .before .before .before .before .before .before .before .before .before .before .if2 .left)
+apart-requires : At tie.Need-apart-requires
+apart-requires c κs =
+    let o = else8 (c .before .before .before) in
+    (room-d (loop4 (else7 o)), sorted-d o, c .before .before .before .slots .ensures, room-a (loop4 (else7 o)))
 
--- src/lib.rt:101:23
-slice-aggregate-apart :
-    tie.Need-slice-aggregate-apart
-    Inv-loop
-    μ-loop
-    Inv-loop2
-    μ-loop2
-    Inv-loop3
-    μ-loop3
-    Inv-loop4
-    μ-loop4
-slice-aggregate-apart c = sym (c .before .slots .ensures .long)
+returns-9 : At tie.Need-returns-9
+returns-9 c = one-broken (s8 (else8 (slots (c .before)))) (zero (else8 (slots (c .before)))) (sym (one-is (c .before)) ∙ not-true _ (c .if9 .taken))
 
--- src/lib.rt:101:31
-slice-aggregate-apart-2 :
-    tie.Need-slice-aggregate-apart-2
-    Inv-loop
-    μ-loop
-    Inv-loop2
-    μ-loop2
-    Inv-loop3
-    μ-loop3
-    Inv-loop4
-    μ-loop4
-slice-aggregate-apart-2 c = sym (c .before .before .before .before .before .before .before .before .before .before .before .loop4 .inv .1 .gone-long)
+lowest-requires : At tie.Need-lowest-requires
+lowest-requires c κs =
+    let o = else7 (else8 (slots (c .before .before .before .before .before .before .before .before))) in
+    let f = loop3 (loop4 o) in
+    (room-of _ _ _ _ _ _ _ _ _ (f .before .loop3 .inv .1) (s3 f .actives) (full-a f) (else2 (loop1 (loop2 f)) .before .if1 .left), sorted-a o)
 
--- src/lib.rt:101:41
-slice-aggregate-apart-3 :
-    tie.Need-slice-aggregate-apart-3
-    Inv-loop
-    μ-loop
-    Inv-loop2
-    μ-loop2
-    Inv-loop3
-    μ-loop3
-    Inv-loop4
-    μ-loop4
-slice-aggregate-apart-3 c = sym (c .before .before .before .before .before .before .before .before .before .before .before .before .before .before .loop3 .inv .1 .list-long)
+returns-10 : At tie.Need-returns-10
+returns-10 c =
+    let o = else9 (c .before) in
+    some-broken (s9 o) (zero (else8 (slots (o .before)))) (one-yes o) (c .before .lowest .result) (low-is (c .before)) (c .if10 .taken)
 
--- src/lib.rt:101:9
-apart-requires :
-    tie.Need-apart-requires Inv-loop μ-loop Inv-loop2 μ-loop2 Inv-loop3 μ-loop3 Inv-loop4 μ-loop4
-apart-requires c κs = (omega (arith, c .before .before .before .before .before .before .before .before .before .before .before .before .loop4 .inv .1 .gone-long, c .before .before .before .before .before .before .before .before .before .before .before .before .before .before .before .before .before .before .before .if2 .left), sorted-d (c .before .before .before .before .before), c .before .before .before .slots .ensures, omega (arith, c .before .before .before .before .before .before .before .before .before .before .before .before .before .before .loop3 .inv .1 .list-long, c .before .before .before .before .before .before .before .before .before .before .before .before .before .before .before .before .before .before .before .before .if1 .left))
+steps-requires : At tie.Need-steps-requires
+steps-requires c κs =
+    let o = slots (else9 (c .before .before .before .before) .before) in
+    let e = loop4 (else7 (else8 o)) in
+    (few-d e, room-d e, sorted-d (else8 o), o .slots .ensures, room-t e)
 
--- src/lib.rt:102:9
-returns-9 :
-    tie.Need-returns-9 Inv-loop μ-loop Inv-loop2 μ-loop2 Inv-loop3 μ-loop3 Inv-loop4 μ-loop4
-returns-9 c = one-broken (c .before .before .before .before .before .before .before .before .before .before .before .before .before .before .before .before .before .before .before .before .before .before .before .args .t1) (zero (c .before .before .before .before .before .before .before)) (sym (one-is (c .before)) ∙ not-true _ (c .if9 .taken))
+leads-out-requires : At tie.Need-leads-out-requires
+leads-out-requires c κs = few-d (loop4 (else7 (else8 (slots (else9 (c .before .before .before .before .before) .before)))))
 
--- src/lib.rt:104:29
-slice-aggregate-lowest :
-    tie.Need-slice-aggregate-lowest
-    Inv-loop
-    μ-loop
-    Inv-loop2
-    μ-loop2
-    Inv-loop3
-    μ-loop3
-    Inv-loop4
-    μ-loop4
-slice-aggregate-lowest c = sym (c .before .before .before .before .before .before .before .before .before .before .before .before .before .before .before .before .before .loop3 .inv .1 .list-long)
+returns-11 : At tie.Need-returns-11
+returns-11 c =
+    let k = else10 (c .before) in
+    let o = else9 (k .before) in
+    nine-broken (s9 o) (zero (else8 (slots (o .before)))) (one-yes o) (k .before .lowest .result) (low-is (k .before)) (k .if10 .left) (sym (nine-is (c .before)) ∙ not-true _ (c .if11 .taken))
 
--- src/lib.rt:104:36
-slice-aggregate-lowest-2 :
-    tie.Need-slice-aggregate-lowest-2
-    Inv-loop
-    μ-loop
-    Inv-loop2
-    μ-loop2
-    Inv-loop3
-    μ-loop3
-    Inv-loop4
-    μ-loop4
-slice-aggregate-lowest-2 c = sym (c .before .before .before .before .before .before .before .before .before .before .before .before .before .before .before .before .before .before .loop3 .inv .1 .parents-long)
-
--- src/lib.rt:104:46
-slice-aggregate-lowest-3 :
-    tie.Need-slice-aggregate-lowest-3
-    Inv-loop
-    μ-loop
-    Inv-loop2
-    μ-loop2
-    Inv-loop3
-    μ-loop3
-    Inv-loop4
-    μ-loop4
-slice-aggregate-lowest-3 c = sym (c .before .before .before .before .before .before .before .before .before .before .before .before .before .before .before .before .before .before .before .loop3 .inv .1 .words-long)
-
--- src/lib.rt:104:54
-slice-aggregate-lowest-4 :
-    tie.Need-slice-aggregate-lowest-4
-    Inv-loop
-    μ-loop
-    Inv-loop2
-    μ-loop2
-    Inv-loop3
-    μ-loop3
-    Inv-loop4
-    μ-loop4
-slice-aggregate-lowest-4 c = sym (c .before .before .before .before .before .before .before .before .before .before .before .before .before .before .before .before .before .before .before .before .loop3 .inv .1 .whole-long)
-
--- src/lib.rt:104:62
-slice-aggregate-lowest-5 :
-    tie.Need-slice-aggregate-lowest-5
-    Inv-loop
-    μ-loop
-    Inv-loop2
-    μ-loop2
-    Inv-loop3
-    μ-loop3
-    Inv-loop4
-    μ-loop4
-slice-aggregate-lowest-5 c = sym (c .before .before .before .before .before .before .before .before .before .before .before .before .before .before .before .before .before .before .before .before .before .loop3 .inv .1 .child-long)
-
--- src/lib.rt:104:70
-slice-aggregate-lowest-6 :
-    tie.Need-slice-aggregate-lowest-6
-    Inv-loop
-    μ-loop
-    Inv-loop2
-    μ-loop2
-    Inv-loop3
-    μ-loop3
-    Inv-loop4
-    μ-loop4
-slice-aggregate-lowest-6 c = sym (c .before .before .before .before .before .before .before .before .before .before .before .before .before .before .before .before .before .before .before .before .before .before .loop3 .inv .1 .kinds-long)
-
--- src/lib.rt:104:78
-slice-aggregate-lowest-7 :
-    tie.Need-slice-aggregate-lowest-7
-    Inv-loop
-    μ-loop
-    Inv-loop2
-    μ-loop2
-    Inv-loop3
-    μ-loop3
-    Inv-loop4
-    μ-loop4
-slice-aggregate-lowest-7 c = sym (c .before .before .before .before .before .before .before .before .before .before .before .before .before .before .before .before .before .before .before .before .before .before .before .loop3 .inv .1 .subjects-long)
-
--- src/lib.rt:104:9
-lowest-requires :
-    tie.Need-lowest-requires Inv-loop μ-loop Inv-loop2 μ-loop2 Inv-loop3 μ-loop3 Inv-loop4 μ-loop4
-lowest-requires c κs = (room-of _ _ _ _ _ _ _ _ _ (c .before .before .before .before .before .before .before .before .before .before .before .before .before .before .before .before .before .before .before .before .before .before .before .loop3 .inv .1) (c .before .before .before .before .before .before .before .before .before .before .before .before .before .before .before .before .before .before .before .before .before .before .before .before .before .before .before .before .before .before .args .t1 .actives) (full-a (c .before .before .before .before .before .before .before .before .before .before .before .before .before .before .before .before .before .before .before .before .before .before)) (c .before .before .before .before .before .before .before .before .before .before .before .before .before .before .before .before .before .before .before .before .before .before .before .before .before .before .before .before .before .if1 .left), sorted-a (c .before .before .before .before .before .before .before .before .before .before .before .before .before .before .before .before .before))
-
--- src/lib.rt:106:9
-returns-10 :
-    tie.Need-returns-10 Inv-loop μ-loop Inv-loop2 μ-loop2 Inv-loop3 μ-loop3 Inv-loop4 μ-loop4
-returns-10 c = some-broken (c .before .before .before .before .before .before .before .before .before .before .before .before .before .before .before .before .before .before .before .before .before .before .before .before .before .before .before .before .before .before .before .before .args .t1) (zero (c .before .before .before .before .before .before .before .before .before .before .before .before .before .before .before .before)) (one-yes (c .before .before .before .before .before .before .before .before .before)) (c .before .lowest .result) (low-is (c .before)) (c .if10 .taken)
-
--- src/lib.rt:108:29
-slice-aggregate-steps :
-    tie.Need-slice-aggregate-steps
-    Inv-loop
-    μ-loop
-    Inv-loop2
-    μ-loop2
-    Inv-loop3
-    μ-loop3
-    Inv-loop4
-    μ-loop4
-slice-aggregate-steps c = sym (c .before .before .before .before .before .before .before .before .before .before .before .before .before .before .before .slots .ensures .long)
-
--- src/lib.rt:108:37
-slice-aggregate-steps-2 :
-    tie.Need-slice-aggregate-steps-2
-    Inv-loop
-    μ-loop
-    Inv-loop2
-    μ-loop2
-    Inv-loop3
-    μ-loop3
-    Inv-loop4
-    μ-loop4
-slice-aggregate-steps-2 c = sym (c .before .before .before .before .before .before .before .before .before .before .before .before .before .before .before .before .before .before .before .before .before .before .before .before .before .loop4 .inv .1 .gone-long)
-
--- src/lib.rt:108:47
-slice-aggregate-steps-3 :
-    tie.Need-slice-aggregate-steps-3
-    Inv-loop
-    μ-loop
-    Inv-loop2
-    μ-loop2
-    Inv-loop3
-    μ-loop3
-    Inv-loop4
-    μ-loop4
-slice-aggregate-steps-3 c = sym (c .before .before .before .before .before .before .before .before .before .before .before .before .before .before .before .before .before .before .before .before .before .before .before .before .before .before .loop4 .inv .1 .targets-long)
-
--- src/lib.rt:108:9
-steps-requires :
-    tie.Need-steps-requires Inv-loop μ-loop Inv-loop2 μ-loop2 Inv-loop3 μ-loop3 Inv-loop4 μ-loop4
-steps-requires c κs = (c .before .before .before .before .before .before .before .before .before .before .before .before .before .before .before .before .before .before .before .before .before .before .before .before .before .before .before .before .before .before .before .before .before .if2 .left, omega (arith, c .before .before .before .before .before .before .before .before .before .before .before .before .before .before .before .before .before .before .before .before .before .before .before .before .before .before .loop4 .inv .1 .gone-long, c .before .before .before .before .before .before .before .before .before .before .before .before .before .before .before .before .before .before .before .before .before .before .before .before .before .before .before .before .before .before .before .before .before .if2 .left), sorted-d (c .before .before .before .before .before .before .before .before .before .before .before .before .before .before .before .before .before .before .before), c .before .before .before .before .before .before .before .before .before .before .before .before .before .before .before .before .before .slots .ensures, omega (arith, c .before .before .before .before .before .before .before .before .before .before .before .before .before .before .before .before .before .before .before .before .before .before .before .before .before .before .loop4 .inv .1 .targets-long, c .before .before .before .before .before .before .before .before .before .before .before .before .before .before .before .before .before .before .before .before .before .before .before .before .before .before .before .before .before .before .before .before .before .if2 .left))
-
--- src/lib.rt:109:9
-leads-out-requires :
-    tie.Need-leads-out-requires
-    Inv-loop
-    μ-loop
-    Inv-loop2
-    μ-loop2
-    Inv-loop3
-    μ-loop3
-    Inv-loop4
-    μ-loop4
-leads-out-requires c κs = c .before .before .before .before .before .before .before .before .before .before .before .before .before .before .before .before .before .before .before .before .before .before .before .before .before .before .before .before .before .before .before .before .before .before .if2 .left
-
--- src/lib.rt:110:9
-returns-11 :
-    tie.Need-returns-11 Inv-loop μ-loop Inv-loop2 μ-loop2 Inv-loop3 μ-loop3 Inv-loop4 μ-loop4
-returns-11 c = nine-broken (c .before .before .before .before .before .before .before .before .before .before .before .before .before .before .before .before .before .before .before .before .before .before .before .before .before .before .before .before .before .before .before .before .before .before .before .before .before .before .args .t1) (zero (c .before .before .before .before .before .before .before .before .before .before .before .before .before .before .before .before .before .before .before .before .before .before)) (one-yes (c .before .before .before .before .before .before .before .before .before .before .before .before .before .before .before)) (c .before .before .before .before .before .before .before .lowest .result) (low-is (c .before .before .before .before .before .before .before)) (c .before .before .before .before .before .before .if10 .left) (sym (nine-is (c .before)) ∙ not-true _ (c .if11 .taken))
-
--- src/lib.rt:23:1
-returns-12 :
-    tie.Need-returns-12 Inv-loop μ-loop Inv-loop2 μ-loop2 Inv-loop3 μ-loop3 Inv-loop4 μ-loop4
-returns-12 c = none-broken (c .before .before .before .before .before .before .before .before .before .before .before .before .before .before .before .before .before .before .before .before .before .before .before .before .before .before .before .before .before .before .before .before .before .before .before .before .before .before .args .t1) (zero (c .before .before .before .before .before .before .before .before .before .before .before .before .before .before .before .before .before .before .before .before .before .before)) (one-yes (c .before .before .before .before .before .before .before .before .before .before .before .before .before .before .before)) (c .before .before .before .before .before .before .before .lowest .result) (low-is (c .before .before .before .before .before .before .before)) (c .before .before .before .before .before .before .if10 .left) (sym (nine-is (c .before)) ∙ not-false _ (c .if11 .left))
+returns-12 : At tie.Need-returns-12
+returns-12 c =
+    let k = else10 (c .before) in
+    let o = else9 (k .before) in
+    none-broken (s9 o) (zero (else8 (slots (o .before)))) (one-yes o) (k .before .lowest .result) (low-is (k .before)) (k .if10 .left) (sym (nine-is (c .before)) ∙ not-false _ (c .if11 .left))
 
 pub broken-spec : {M : Type 1} → statement M
 broken-spec =
@@ -1091,112 +406,112 @@ broken-spec =
     returns
     returns-2
     loop-holds
-    mul-x
-    element-copy-out-x
-    empty-active-requires
+    (λ c. omega arith)
+    (λ c. omega arith)
+    (λ c κs. tt)
     returns-3
-    add-a
-    loop-less
+    (λ c. omega arith)
+    (λ c. omega arith)
     loop-again
     loop2-holds
-    mul-y
-    element-copy-out-y
-    empty-defunct-requires
+    (λ c. omega arith)
+    (λ c. omega arith)
+    (λ c κs. tt)
     returns-4
-    add-d
-    loop2-less
+    (λ c. omega arith)
+    (λ c. omega arith)
     loop2-again
     loop3-holds
-    mul-x-2
-    element-copy-out-x-2
-    neat-active-requires
+    (λ c. omega arith)
+    (λ c. omega arith)
+    (λ c κs. tt)
     returns-5
-    mul-list
-    mul-list-2
-    array-write-list
-    mul-list-3
-    add-list
-    mul-list-4
-    array-write-list-2
-    mul-parents
-    mul-parents-2
-    array-write-parents
-    mul-parents-3
-    add-parents
-    mul-parents-4
-    array-write-parents-2
-    mul-words
-    mul-words-2
-    array-write-words
-    mul-words-3
-    add-words
-    mul-words-4
-    array-write-words-2
-    mul-words-5
-    add-words-2
-    mul-words-6
-    array-write-words-3
-    mul-words-7
-    add-words-3
-    mul-words-8
-    array-write-words-4
-    array-write-whole
-    array-write-child
-    number-requires
-    mul-kinds
-    array-write-kinds
-    mul-subjects
-    array-write-subjects
-    add-i
-    loop3-less
+    (λ c. omega arith)
+    (λ c. omega arith)
+    (λ c. omega arith)
+    (λ c. omega arith)
+    (λ c. omega arith)
+    (λ c. omega arith)
+    (λ c. omega arith)
+    (λ c. omega arith)
+    (λ c. omega arith)
+    (λ c. omega arith)
+    (λ c. omega arith)
+    (λ c. omega arith)
+    (λ c. omega arith)
+    (λ c. omega arith)
+    (λ c. omega arith)
+    (λ c. omega arith)
+    (λ c. omega arith)
+    (λ c. omega arith)
+    (λ c. omega arith)
+    (λ c. omega arith)
+    (λ c. omega arith)
+    (λ c. omega arith)
+    (λ c. omega arith)
+    (λ c. omega arith)
+    (λ c. omega arith)
+    (λ c. omega arith)
+    (λ c. omega arith)
+    (λ c. omega arith)
+    (λ c. omega arith)
+    (λ c. omega arith)
+    (λ c. omega arith)
+    (λ c κs. tt)
+    (λ c. omega arith)
+    (λ c. omega arith)
+    (λ c. omega arith)
+    (λ c. omega arith)
+    (λ c. omega arith)
+    (λ c. omega arith)
     loop3-again
     loop4-holds
-    mul-y-2
-    element-copy-out-y-2
-    neat-defunct-requires
+    (λ c. omega arith)
+    (λ c. omega arith)
+    (λ c κs. tt)
     returns-6
-    mul-gone
-    mul-gone-2
-    array-write-gone
-    mul-gone-3
-    add-gone
-    mul-gone-4
-    array-write-gone-2
-    mul-targets
-    mul-targets-2
-    array-write-targets
-    mul-targets-3
-    add-targets
-    mul-targets-4
-    array-write-targets-2
-    add-j
-    loop4-less
+    (λ c. omega arith)
+    (λ c. omega arith)
+    (λ c. omega arith)
+    (λ c. omega arith)
+    (λ c. omega arith)
+    (λ c. omega arith)
+    (λ c. omega arith)
+    (λ c. omega arith)
+    (λ c. omega arith)
+    (λ c. omega arith)
+    (λ c. omega arith)
+    (λ c. omega arith)
+    (λ c. omega arith)
+    (λ c. omega arith)
+    (λ c. omega arith)
+    (λ c. omega arith)
     loop4-again
-    slice-aggregate-rising
-    rising-requires
+    (λ c. sym (loop3 (c .before) .before .loop3 .inv .1 .list-long))
+    (λ c κs. room-a (c .before))
     returns-7
-    slice-aggregate-rising-2
-    rising-requires-2
+    (λ c. sym (loop4 (c .before) .before .loop4 .inv .1 .gone-long))
+    (λ c κs. room-d (loop4 (c .before)))
     returns-8
-    slice-aggregate-slots
+    (λ c. sym (loop4 (else7 (c .before)) .before .loop4 .inv .1 .gone-long))
     slots-requires
-    slice-aggregate-apart
-    slice-aggregate-apart-2
-    slice-aggregate-apart-3
+    (λ c. sym (c .before .slots .ensures .long))
+    (λ c. sym (loop4 (else7 (else8 (c .before .before))) .before .loop4 .inv .1 .gone-long))
+    (λ c. sym (loop3 (loop4 (else7 (else8 (c .before .before .before)))) .before .loop3 .inv .1 .list-long))
     apart-requires
     returns-9
-    slice-aggregate-lowest
-    slice-aggregate-lowest-2
-    slice-aggregate-lowest-3
-    slice-aggregate-lowest-4
-    slice-aggregate-lowest-5
-    slice-aggregate-lowest-6
-    slice-aggregate-lowest-7
+    (λ c. sym (read9 (c .before) .before .loop3 .inv .1 .list-long))
+    (λ c. sym (read9 (c .before .before) .before .loop3 .inv .1 .parents-long))
+    (λ c. sym (read9 (c .before .before .before) .before .loop3 .inv .1 .words-long))
+    (λ c. sym (read9 (c .before .before .before .before) .before .loop3 .inv .1 .whole-long))
+    (λ c. sym (read9 (c .before .before .before .before .before) .before .loop3 .inv .1 .child-long))
+    (λ c. sym (read9 (c .before .before .before .before .before .before) .before .loop3 .inv .1 .kinds-long))
+    (λ c. sym (read9 (c .before .before .before .before .before .before .before) .before .loop3 .inv .1 .subjects-long))
     lowest-requires
     returns-10
-    slice-aggregate-steps
-    slice-aggregate-steps-2
-    slice-aggregate-steps-3
+    (λ c. sym (slots (else9 (c .before .before) .before) .slots .ensures .long))
+    (λ c. sym (loop4 (else7 (else8 (slots (else9 (c .before .before .before) .before)))) .before .loop4 .inv .1 .gone-long))
+    (λ c. sym (loop4 (else7 (else8 (slots (else9 (c .before .before .before .before) .before)))) .before .loop4 .inv .1 .targets-long))
     steps-requires
     leads-out-requires
     returns-11
