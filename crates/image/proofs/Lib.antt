@@ -1,5 +1,6 @@
 pub mod Stepping
 pub mod Running
+pub mod Runs
 pub mod Halves
 pub mod Writes
 pub mod There

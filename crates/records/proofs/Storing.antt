@@ -26,7 +26,7 @@ use Rattle.records.proofs.Framing.{length-record, frame-record, body-in
 pub room : (b : Bool) (m n : ℕ) → b ≡ leb m n → not b ≡ false → m ≤ n
 room b m n e t = leb-true m n (sym e ∙ not-false b t)
 
-no-room : (b : Bool) (m n : ℕ) → b ≡ leb m n → not b ≡ true → n < m
+pub no-room : (b : Bool) (m n : ℕ) → b ≡ leb m n → not b ≡ true → n < m
 no-room b m n e t = leb-false m n (sym e ∙ not-true b t)
 
 -- length and kind

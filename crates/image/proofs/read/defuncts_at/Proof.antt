@@ -1,26 +1,13 @@
-use mathlib.Core.Path.{_≡_, refl, sym, _∙_, ap, subst⁻¹}
-use mathlib.Core.List.{List}
-use Prim.Native.Nat.{ℕ, _-_}
-use lib.ListN.{replicate}
+use Prim.Native.Nat.{_-_}
+use mathlib.Core.Path.{_∙_}
 use native.Mathlib.Omega.{arith}
 use borrow.Author.Needs.{needs}
-use denote.Ref.{now}
-use Rattle.ids.specs.Order.{key, noId}
-use Rattle.state.specs.declared.DefunctLock.{DefunctLock}
-use Rattle.image.specs.declared.Reading.the-variants.{Done}
-use Rattle.image.specs.declared.reader.Due.the-variants as Due
-use Rattle.image.specs.declared.read.Defuncts.{Defuncts}
+use Rattle.ids.specs.Order.{key}
 use Rattle.image.specs.Image.{defunctList}
-use Rattle.image.specs.Code.{ranDefuncts}
-use Rattle.image.proofs.Running.{Going, starts, turns, stops, ends, disorders, order-told, defunct-got, defunct-stopped, not-due}
+use Rattle.image.proofs.Running.{Going}
+use Rattle.image.proofs.Runs.{defuncts, begins, closes, refuses, never, late, goes-on}
 use Rattle.image.proofs.read.defuncts_at.Statement.{statement}
 use Rattle.image.proofs.read.defuncts_at.Tie as tie
-use Rattle.image.proofs.read.defuncts_at.Reads as reads
-use Rattle.image.proofs.read.defuncts_at.Lts as lts
-use Rattle.ids.proofs.less.Reads as less-reads
-use Rattle.image.proofs.read.no_defuncts.Reads as no-defuncts-reads
-use Rattle.image.proofs.reader.step_from.Reads as step-from-reads
-use Rattle.state.proofs.blank_defunct.Reads as blank-defunct-reads
 
 abbrev Inv-loop : tie.InvT-loop
 Inv-loop image from n locks₀ last₀ at₀ i₀ locks last at i = Going defunctList image n from locks (key last) at i
@@ -28,144 +15,31 @@ Inv-loop image from n locks₀ last₀ at₀ i₀ locks last at i = Going defunc
 abbrev μ-loop : tie.MeasureT-loop
 μ-loop image from n locks₀ last₀ at₀ i₀ locks last at i = n - i
 
--- src/read.rt:82:22
-blank-defunct-requires : tie.Need-blank-defunct-requires Inv-loop μ-loop
-blank-defunct-requires c κs = search needs
-
--- src/read.rt:86:5
-loop-holds : tie.Need-loop-holds Inv-loop μ-loop
-loop-holds c =
-    let a = c .before .before .args in
-    subst⁻¹ (λ (b : DefunctLock). Going defunctList (now (a .image)) (a .n) (a .from) (replicate 128 b) (key noId) (a .from) 0) (c .blank-defunct .ensures) (starts defunctList (now (a .image)) (a .n) (a .from) (key noId))
-
--- src/read.rt:87:13
-step-from-requires : tie.Need-step-from-requires Inv-loop μ-loop
-step-from-requires c κs = search needs
-
--- src/read.rt:90:26
-enum-known-step : tie.Need-enum-known-step Inv-loop μ-loop
-enum-known-step c = search needs
-
--- src/read.rt:92:31
-less-requires : tie.Need-less-requires Inv-loop μ-loop
-less-requires c κs = search needs
-
--- src/read.rt:93:21
-no-defuncts-requires : tie.Need-no-defuncts-requires Inv-loop μ-loop
-no-defuncts-requires c κs = search needs
-
--- src/read.rt:93:21
-returns : tie.Need-returns Inv-loop μ-loop
-returns c =
-    let a = c .before .before .before .before .before .before .before .before .before .before .before .before .args in
-    let l = c .before .before .before .before .before .before .before .before .before .loop in
-    c .no-defuncts .ensures ∙ ap ranDefuncts (sym (disorders defunctList (now (a .image)) (a .n) (a .from) (l .locks) (key (l .last)) (l .at) (l .i) (l .inv) (c .before .before .before .before .before .before .before .before .loop-test .taken) (c .before .before .before .before .before .step .given .0 .0) (c .before .before .before .before .before .before .before .step-from .result .at)
-    (defunct-got (now (a .image)) (l .at) (c .before .before .before .before .before .before .before .step-from .result) _ (c .before .before .before .before .before .before .before .step-from .ensures) (c .before .before .before .before .before .step .given .1))
-    (order-told (l .i) (l .last) _ _ _ (c .before .before .less .ensures) (c .before .if1 .taken))))
-
--- src/read.rt:95:17
-mul-locks : tie.Need-mul-locks Inv-loop μ-loop
-mul-locks c = search needs
-
--- src/read.rt:95:17
-array-set-from-locks : tie.Need-array-set-from-locks Inv-loop μ-loop
-array-set-from-locks c = search needs
-
--- src/read.rt:98:17
-add-i : tie.Need-add-i Inv-loop μ-loop
-add-i c = search needs
-
--- src/read.rt:86:5
-loop-less : tie.Need-loop-less Inv-loop μ-loop
-loop-less c = search needs
-
--- src/read.rt:86:5
-loop-again : tie.Need-loop-again Inv-loop μ-loop
-loop-again c =
-    let a = c .before .before .before .before .before .before .before .before .before .before .before .args in
-    let l = c .before .before .before .before .before .before .before .before .loop in
-    turns defunctList (now (a .image)) (a .n) (a .from) (l .locks) (key (l .last)) (l .at) (l .i) (l .inv) (c .before .before .before .before .before .before .before .loop-test .taken) (c .before .before .before .before .step .given .0 .0) (c .before .before .before .before .before .before .step-from .result .at)
-    (defunct-got (now (a .image)) (l .at) (c .before .before .before .before .before .before .step-from .result) _ (c .before .before .before .before .before .before .step-from .ensures) (c .before .before .before .before .step .given .1))
-    (c .before .before .before .before .before .before .before .before .before .before .before .pre)
-    (order-told (l .i) (l .last) _ _ _ (c .before .less .ensures) (c .if1 .left))
-
--- src/read.rt:100:27
-enum-known-step-2 : tie.Need-enum-known-step-2 Inv-loop μ-loop
-enum-known-step-2 c = search needs
-
--- src/read.rt:101:17
-no-defuncts-requires-2 : tie.Need-no-defuncts-requires-2 Inv-loop μ-loop
-no-defuncts-requires-2 c κs = search needs
-
--- src/read.rt:101:17
-returns-2 : tie.Need-returns-2 Inv-loop μ-loop
-returns-2 c =
-    let a = c .before .before .before .before .before .before .before .before .before .args in
-    let l = c .before .before .before .before .before .before .loop in
-    c .no-defuncts2 .ensures ∙ ap ranDefuncts (sym (stops defunctList (now (a .image)) (a .n) (a .from) (l .locks) (key (l .last)) (l .at) (l .i) (l .inv) (c .before .before .before .before .before .loop-test .taken) (c .before .before .step2 .given .0 .0)
-    (defunct-stopped (now (a .image)) (l .at) (c .before .before .before .before .step-from .result) _ (c .before .before .before .before .step-from .ensures) (c .before .before .step2 .given .1))))
-
--- src/read.rt:105:35
-enum-told : tie.Need-enum-told Inv-loop μ-loop
-enum-told c = search needs
-
--- src/read.rt:105:17
-no-defuncts-requires-3 : tie.Need-no-defuncts-requires-3 Inv-loop μ-loop
-no-defuncts-requires-3 c κs = search needs
-
--- src/read.rt:105:17
-returns-3 : tie.Need-returns-3 Inv-loop μ-loop
-returns-3 c =
-    let a = c .before .before .before .before .before .before .before .before .args in
-    absurd (not-due (now (a .image)) (c .before .before .before .before .before .loop .at) Due.Defunct (c .before .before .before .step-from .result) _ (c .before .before .before .step-from .ensures) (c .before .enum-told .given .1) (omega arith) (λ z. omega arith))
-
--- src/read.rt:108:35
-enum-told-2 : tie.Need-enum-told-2 Inv-loop μ-loop
-enum-told-2 c = search needs
-
--- src/read.rt:108:17
-no-defuncts-requires-4 : tie.Need-no-defuncts-requires-4 Inv-loop μ-loop
-no-defuncts-requires-4 c κs = search needs
-
--- src/read.rt:108:17
-returns-4 : tie.Need-returns-4 Inv-loop μ-loop
-returns-4 c =
-    let a = c .before .before .before .before .before .before .before .before .args in
-    absurd (not-due (now (a .image)) (c .before .before .before .before .before .loop .at) Due.Defunct (c .before .before .before .step-from .result) _ (c .before .before .before .step-from .ensures) (c .before .enum-told2 .given .1) (omega arith) (λ z. omega arith))
-
--- src/read.rt:78:1
-returns-5 : tie.Need-returns-5 Inv-loop μ-loop
-returns-5 c =
-    let a = c .before .before .before .before .args in
-    let l = c .before .loop in
-    let w = ends defunctList (now (a .image)) (a .n) (a .from) (l .locks) (key (l .last)) (l .at) (l .i) (l .inv) (c .loop-test .left) in
-    ap (λ (x : List DefunctLock). record { told = Done; at = l .at; locks = x }) (w .1) ∙ ap ranDefuncts (sym (w .0))
-
 pub defuncts-at-spec : {M : Type 1} → statement M
 defuncts-at-spec =
     tie.close
     (tie.spec
     Inv-loop
     μ-loop
-    blank-defunct-requires
-    loop-holds
-    step-from-requires
-    enum-known-step
-    less-requires
-    no-defuncts-requires
-    returns
-    mul-locks
-    array-set-from-locks
-    add-i
-    loop-less
-    loop-again
-    enum-known-step-2
-    no-defuncts-requires-2
-    returns-2
-    enum-told
-    no-defuncts-requires-3
-    returns-3
-    enum-told-2
-    no-defuncts-requires-4
-    returns-4
-    returns-5)
+    (λ c κs. search needs)
+    (λ c. begins defuncts _ _ _ _ _ (c .blank-defunct .ensures))
+    (λ c κs. search needs)
+    (λ c. search needs)
+    (λ c κs. search needs)
+    (λ c κs. search needs)
+    (λ c. c .no-defuncts .ensures ∙ late defuncts _ _ _ _ _ _ _ (c .before .before .before .before .before .before .before .before .before .loop .inv) (c .before .before .before .before .before .before .before .before .loop-test .taken) _ (c .before .before .before .before .before .before .before .step-from .ensures) _ (c .before .before .before .before .before .step .given .1) _ (c .before .before .less .ensures) (c .before .if1 .taken))
+    (λ c. search needs)
+    (λ c. search needs)
+    (λ c. search needs)
+    (λ c. search needs)
+    (λ c. goes-on defuncts _ _ _ _ _ _ _ (c .before .before .before .before .before .before .before .before .loop .inv) (c .before .before .before .before .before .before .before .loop-test .taken) _ (c .before .before .before .before .before .before .step-from .ensures) _ (c .before .before .before .before .step .given .1) _ (c .before .less .ensures) (c .if1 .left) (c .before .before .before .before .before .before .before .before .before .before .before .pre))
+    (λ c. search needs)
+    (λ c κs. search needs)
+    (λ c. c .no-defuncts2 .ensures ∙ refuses defuncts _ _ _ _ _ _ _ (c .before .before .before .before .before .before .loop .inv) (c .before .before .before .before .before .loop-test .taken) _ (c .before .before .before .before .step-from .ensures) _ (c .before .before .step2 .given .1))
+    (λ c. search needs)
+    (λ c κs. search needs)
+    (λ c. absurd (never defuncts _ _ _ _ _ _ _ (c .before .before .before .before .before .loop .inv) (c .before .before .before .before .loop-test .taken) _ (c .before .before .before .step-from .ensures) _ (c .before .enum-told .given .1) (omega arith) (λ z. omega arith)))
+    (λ c. search needs)
+    (λ c κs. search needs)
+    (λ c. absurd (never defuncts _ _ _ _ _ _ _ (c .before .before .before .before .before .loop .inv) (c .before .before .before .before .loop-test .taken) _ (c .before .before .before .step-from .ensures) _ (c .before .enum-told2 .given .1) (omega arith) (λ z. omega arith)))
+    (λ c. closes defuncts _ _ _ _ _ _ _ (c .before .loop .inv) (c .loop-test .left)))
