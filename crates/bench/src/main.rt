@@ -1,7 +1,6 @@
 // What bench/run times. Standard input: a byte that says what is timed, a byte k for 2^k turns, then an image. Each turn's
 // revision comes from the turn before, so that no turn can be left out; what is printed is the last one's sum.
 // SPDX-License-Identifier: Apache-2.0
-use coverage::LockCoverage;
 use ids::LockId;
 use image::Spare;
 use image::Writing;
@@ -35,12 +34,9 @@ fn new_lock(scope: ScopeKey) -> ActiveLock {
             hi: 18446744073709551615,
             lo: 1,
         },
-        coverage: LockCoverage::empty(),
-        principal: 0,
-        metadata: 0,
         subject: 65535,
         scope,
-        exclusive: false,
+        ..state::blank_lock()
     };
     ActiveLock {
         lock: l,

@@ -38,10 +38,10 @@ fn left(answer: u64, s: LockState) {
     number(s.defuncts as u64);
 }
 
-fn ids_of(removed: [ActiveLock; 64], gone: usize) {
+fn ids_of(removed: [ActiveLock; LockState::ACTIVE], gone: usize) {
     text(b" removed");
     let mut i: usize = 0;
-    while i < 64 {
+    while i < LockState::ACTIVE {
         let a = removed[i];
         let l = a.lock;
         let k = l.id;
@@ -91,11 +91,9 @@ fn lock(n: u64, scope: ScopeKey, c: LockCoverage, subject: u16) -> ActiveLock {
     let l = Lock {
         id: id(n),
         coverage: c,
-        principal: 0,
-        metadata: 0,
         subject,
         scope,
-        exclusive: false,
+        ..state::blank_lock()
     };
     ActiveLock {
         lock: l,

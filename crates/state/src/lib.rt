@@ -47,9 +47,9 @@ pub struct DefunctLock {
 // Each list stands in the first places of its array, ascending by id; unused places are blank.
 pub struct LockState {
     pub revision: u64,
-    pub active: [ActiveLock; 64],
+    pub active: [ActiveLock; LockState::ACTIVE],
     pub actives: usize,
-    pub defunct: [DefunctLock; 128],
+    pub defunct: [DefunctLock; LockState::DEFUNCT],
     pub defuncts: usize,
 }
 
@@ -202,9 +202,9 @@ impl LockState {
         let d = blank_defunct();
         LockState {
             revision: 0,
-            active: [a; 64],
+            active: [a; LockState::ACTIVE],
             actives: 0,
-            defunct: [d; 128],
+            defunct: [d; LockState::DEFUNCT],
             defuncts: 0,
         }
     }
