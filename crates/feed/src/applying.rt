@@ -19,6 +19,7 @@ use records::requests::Renewal;
 use records::requests::Replacement;
 use records::requests::Request;
 use state::ActiveLock;
+use state::LockState;
 ghost use mathlib.Core.Path.{_≡_};
 ghost use lib.ListN.{drop};
 ghost use Rattle.operations.specs.Insert.{insertActiveOn};
@@ -178,7 +179,7 @@ fn expire_defunct(spare: Spare, clock: u64, sequence: u32, next: usize) -> Step
             sequence,
             next,
             gone: 0,
-            removed: [b; 64],
+            removed: [b; LockState::ACTIVE],
             lapsed: told.gone,
             ids,
         },

@@ -9,6 +9,7 @@ use operations::answers::Deletion;
 use operations::answers::Expiration;
 use operations::answers::Renewal;
 use state::ActiveLock;
+use state::LockState;
 ghost use mathlib.Core.Path.{_≡_};
 ghost use Rattle.feed.specs.Feed.{telling, plain, still};
 
@@ -38,9 +39,9 @@ pub struct Told {
     pub sequence: u32,
     pub next: usize,
     pub gone: usize,
-    pub removed: [ActiveLock; 64],
+    pub removed: [ActiveLock; LockState::ACTIVE],
     pub lapsed: usize,
-    pub ids: [LockId; 128],
+    pub ids: [LockId; LockState::DEFUNCT],
 }
 
 pub struct Step {
@@ -53,7 +54,7 @@ pub(crate) fn telling(
     sequence: u32,
     next: usize,
     gone: usize,
-    removed: [ActiveLock; 64],
+    removed: [ActiveLock; LockState::ACTIVE],
 ) -> Told
     ensures { λ r. ⌜ r ≡ telling event sequence next gone removed ⌝ }
 {
@@ -64,7 +65,7 @@ pub(crate) fn telling(
         gone,
         removed,
         lapsed: 0,
-        ids: [LockId { hi: 0, lo: 0 }; 128],
+        ids: [LockId { hi: 0, lo: 0 }; LockState::DEFUNCT],
     }
 }
 
@@ -73,7 +74,7 @@ pub(crate) fn plain(event: Event, sequence: u32, next: usize) -> Told
     ensures { λ r. ⌜ r ≡ plain event sequence next ⌝ }
 {
     let b = state::blank_active();
-    telling(event, sequence, next, 0, [b; 64])
+    telling(event, sequence, next, 0, [b; LockState::ACTIVE])
 }
 
 // The spare stays as it is.

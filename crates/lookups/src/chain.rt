@@ -19,16 +19,16 @@ ghost use Rattle.lookups.specs.Code.{Columns, keyAt, activeId, defunctId
 
 // The ids of a list by their halves: a search reads numbers and copies no lock.
 struct Ids {
-    hi: [u64; 128],
-    lo: [u64; 128],
+    hi: [u64; LockState::DEFUNCT],
+    lo: [u64; LockState::DEFUNCT],
 }
 
-fn active_ids(active: [ActiveLock; 64], n: usize) -> Ids
+fn active_ids(active: [ActiveLock; LockState::ACTIVE], n: usize) -> Ids
     requires { ⌜ n ≤ 64 ⌝ }
     ensures { λ r. ⌜ Columns activeId blankActive active n (r .hi) (r .lo) ⌝ }
 {
-    let mut hi = [0u64; 128];
-    let mut lo = [0u64; 128];
+    let mut hi = [0u64; LockState::DEFUNCT];
+    let mut lo = [0u64; LockState::DEFUNCT];
     let mut i: usize = 0;
     while i < n {
         let a = active[i];
@@ -40,12 +40,12 @@ fn active_ids(active: [ActiveLock; 64], n: usize) -> Ids
     Ids { hi, lo }
 }
 
-fn defunct_ids(defunct: [DefunctLock; 128], n: usize) -> Ids
+fn defunct_ids(defunct: [DefunctLock; LockState::DEFUNCT], n: usize) -> Ids
     requires { ⌜ n ≤ 128 ⌝ }
     ensures { λ r. ⌜ Columns defunctId blankDefunct defunct n (r .hi) (r .lo) ⌝ }
 {
-    let mut hi = [0u64; 128];
-    let mut lo = [0u64; 128];
+    let mut hi = [0u64; LockState::DEFUNCT];
+    let mut lo = [0u64; LockState::DEFUNCT];
     let mut i: usize = 0;
     while i < n {
         let d = defunct[i];
@@ -83,7 +83,7 @@ pub(crate) fn walk(s: LockState, d: DefunctLock) -> Holder
     let a = active_ids(l, n);
     let t = s.defunct;
     let e = defunct_ids(t, m);
-    let mut visited = [false; 128];
+    let mut visited = [false; LockState::DEFUNCT];
     let mut id = d.target;
     let mut holder = d.holder;
     let mut links: u64 = 0;

@@ -4,6 +4,7 @@ use coverage::LockCoverage;
 use ids::LockId;
 use state::ActiveLock;
 use state::DefunctLock;
+use state::LockState;
 use state::ScopeKey;
 ghost use mathlib.Core.Path.{_≡_};
 ghost use Rattle.lookups.specs.Reads.{onScope, narrow, groupOver, coversDefunct, uncovered};
@@ -42,7 +43,7 @@ pub enum Listed {
 // The ids of a list stand beside the answer: an enum holds no array.
 pub struct Narrow {
     pub told: Listed,
-    pub ids: [LockId; 64],
+    pub ids: [LockId; LockState::ACTIVE],
 }
 
 // What a lock needs to keep its control units in a session: the original's TesterPresentType.

@@ -105,7 +105,7 @@ pub fn covered_narrow_locks(s: LockState, broad: ActiveLock) -> Narrow
             let blank = LockId { hi: 0, lo: 0 };
             Narrow {
                 told: Listed::UnsoundState(rule),
-                ids: [blank; 64],
+                ids: [blank; LockState::ACTIVE],
             }
         }
         Verdict::Sound => {

@@ -10,6 +10,7 @@ use coverage::LockCoverage;
 use ids::LockId;
 use state::ActiveLock;
 use state::DefunctLock;
+use state::LockState;
 use state::ScopeKey;
 ghost use mathlib.Core.Path.{_≡_};
 ghost use mathlib.Core.List.{map};
@@ -20,7 +21,11 @@ ghost use Rattle.state.specs.Locks.{hasId, hasIdD};
 ghost use Rattle.lookups.specs.Reads.{toldA, toldD, idsTold, onScope, narrow, groupOver, uncovered, presentFor, toldPresent, needs};
 ghost use Rattle.lookups.specs.Code.{scopeOf, ownNeed, Alone};
 
-pub(crate) fn find_scope(active: [ActiveLock; 64], n: usize, scope: ScopeKey) -> FoundActive
+pub(crate) fn find_scope(
+    active: [ActiveLock; LockState::ACTIVE],
+    n: usize,
+    scope: ScopeKey,
+) -> FoundActive
     requires { ⌜ n ≤ 64 ⌝ }
     ensures { λ r. ⌜ r ≡ toldA (find (onScope scope) (take n active)) ⌝ }
 {
@@ -35,7 +40,11 @@ pub(crate) fn find_scope(active: [ActiveLock; 64], n: usize, scope: ScopeKey) ->
     FoundActive::Nothing
 }
 
-pub(crate) fn find_active(active: [ActiveLock; 64], n: usize, id: LockId) -> FoundActive
+pub(crate) fn find_active(
+    active: [ActiveLock; LockState::ACTIVE],
+    n: usize,
+    id: LockId,
+) -> FoundActive
     requires { ⌜ n ≤ 64 ⌝ }
     ensures { λ r. ⌜ r ≡ toldA (find (hasId id) (take n active)) ⌝ }
 {
@@ -50,7 +59,12 @@ pub(crate) fn find_active(active: [ActiveLock; 64], n: usize, id: LockId) -> Fou
     FoundActive::Nothing
 }
 
-pub(crate) fn find_group(active: [ActiveLock; 64], n: usize, subject: u16, ecu: u8) -> FoundActive
+pub(crate) fn find_group(
+    active: [ActiveLock; LockState::ACTIVE],
+    n: usize,
+    subject: u16,
+    ecu: u8,
+) -> FoundActive
     requires { ⌜ n ≤ 64 ⌝ }
     ensures { λ r. ⌜ r ≡ toldA (find (groupOver subject ecu) (take n active)) ⌝ }
 {
@@ -65,7 +79,11 @@ pub(crate) fn find_group(active: [ActiveLock; 64], n: usize, subject: u16, ecu: 
     FoundActive::Nothing
 }
 
-pub(crate) fn find_defunct(defunct: [DefunctLock; 128], n: usize, id: LockId) -> FoundDefunct
+pub(crate) fn find_defunct(
+    defunct: [DefunctLock; LockState::DEFUNCT],
+    n: usize,
+    id: LockId,
+) -> FoundDefunct
     requires { ⌜ n ≤ 128 ⌝ }
     ensures { λ r. ⌜ r ≡ toldD (find (hasIdD id) (take n defunct)) ⌝ }
 {
@@ -81,7 +99,7 @@ pub(crate) fn find_defunct(defunct: [DefunctLock; 128], n: usize, id: LockId) ->
 }
 
 pub(crate) fn find_uncovered(
-    defunct: [DefunctLock; 128],
+    defunct: [DefunctLock; LockState::DEFUNCT],
     n: usize,
     subject: u16,
     scope: ScopeKey,
@@ -103,12 +121,16 @@ pub(crate) fn find_uncovered(
 }
 
 // The ids of the locks that a group lock covers, ascending.
-pub(crate) fn narrow_ids(active: [ActiveLock; 64], n: usize, broad: ActiveLock) -> Narrow
+pub(crate) fn narrow_ids(
+    active: [ActiveLock; LockState::ACTIVE],
+    n: usize,
+    broad: ActiveLock,
+) -> Narrow
     requires { ⌜ n ≤ 64 ⌝ }
     ensures { λ r. ⌜ r ≡ idsTold (map (λ a. a .lock .id) (filter (narrow broad) (take n active))) ⌝ }
 {
     let blank = LockId { hi: 0, lo: 0 };
-    let mut out = [blank; 64];
+    let mut out = [blank; LockState::ACTIVE];
     let mut w: usize = 0;
     let mut i: usize = 0;
     while i < n {
@@ -127,7 +149,12 @@ pub(crate) fn narrow_ids(active: [ActiveLock; 64], n: usize, broad: ActiveLock) 
     }
 }
 
-pub(crate) fn has_group(active: [ActiveLock; 64], n: usize, subject: u16, ecu: u8) -> bool
+pub(crate) fn has_group(
+    active: [ActiveLock; LockState::ACTIVE],
+    n: usize,
+    subject: u16,
+    ecu: u8,
+) -> bool
     requires { ⌜ n ≤ 64 ⌝ }
     ensures { λ r. ⌜ r ≡ any (groupOver subject ecu) (take n active) ⌝ }
 {
@@ -144,7 +171,7 @@ pub(crate) fn has_group(active: [ActiveLock; 64], n: usize, subject: u16, ecu: u
 
 // What a lock of the subject on the scope needs: nothing of its own where a group lock of the subject covers its ECU.
 pub(crate) fn present_for(
-    active: [ActiveLock; 64],
+    active: [ActiveLock; LockState::ACTIVE],
     n: usize,
     subject: u16,
     scope: ScopeKey,
@@ -175,7 +202,12 @@ fn scope_of(t: TesterPresent) -> ScopeKey
 }
 
 // Whether the subject's lock on that scope needs just this.
-fn own_need(active: [ActiveLock; 64], n: usize, subject: u16, t: TesterPresent) -> bool
+fn own_need(
+    active: [ActiveLock; LockState::ACTIVE],
+    n: usize,
+    subject: u16,
+    t: TesterPresent,
+) -> bool
     requires { ⌜ n ≤ 64 ⌝ }
     ensures { λ r. ⌜ r ≡ ownNeed (take n active) subject t ⌝ }
 {
@@ -186,7 +218,7 @@ fn own_need(active: [ActiveLock; 64], n: usize, subject: u16, t: TesterPresent) 
 }
 
 // Whether some lock needs this: there is one lock a scope, so the one on its scope tells.
-pub(crate) fn is_needed(active: [ActiveLock; 64], n: usize, t: TesterPresent) -> bool
+pub(crate) fn is_needed(active: [ActiveLock; LockState::ACTIVE], n: usize, t: TesterPresent) -> bool
     requires { ⌜ (n ≤ 64) × Alone (take n active) ⌝ }
     ensures { λ r. ⌜ r ≡ any (needs (take n active) t) (take n active) ⌝ }
 {

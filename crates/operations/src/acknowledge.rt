@@ -93,12 +93,12 @@ fn has_lapsed(clock: u64, d: DefunctLock) -> bool
 }
 
 // The ids of the entries that have expired, ascending.
-fn lapsed_ids(l: [DefunctLock; 128], n: usize, clock: u64) -> Shed
+fn lapsed_ids(l: [DefunctLock; LockState::DEFUNCT], n: usize, clock: u64) -> Shed
     requires { ⌜ n ≤ 128 ⌝ }
     ensures { λ r. ⌜ r ≡ idsTold (idsOfEntries (filter (lapsed clock) (take n l))) ⌝ }
 {
     let z = LockId { hi: 0, lo: 0 };
-    let mut ids = [z; 128];
+    let mut ids = [z; LockState::DEFUNCT];
     let mut w: usize = 0;
     let mut i: usize = 0;
     while i < n {
@@ -122,7 +122,7 @@ fn without_lapsed(t: Table, clock: u64) -> Table
     ensures { λ r. ⌜ r ≡ expiredTable clock t ⌝ }
 {
     let n = t.count;
-    let mut goes = [false; 192];
+    let mut goes = [false; table::PLACES];
     let mut i: usize = 0;
     while i < n {
         let d = t.entries[i];
@@ -140,7 +140,7 @@ fn none_shed(a: DefunctExpiry, s: LockState) -> DefunctsExpired
         told: Shed {
             answer: a,
             gone: 0,
-            ids: [z; 128],
+            ids: [z; LockState::DEFUNCT],
         },
         state: s,
     }

@@ -80,7 +80,7 @@ pub struct Inserted {
 pub struct Replacement {
     pub answer: Answer,
     pub gone: usize,
-    pub removed: [ActiveLock; 64],
+    pub removed: [ActiveLock; LockState::ACTIVE],
 }
 
 pub struct Replaced {
@@ -96,7 +96,7 @@ pub struct Renewed {
 pub struct Removal {
     pub answer: Deletion,
     pub gone: usize,
-    pub removed: [ActiveLock; 64],
+    pub removed: [ActiveLock; LockState::ACTIVE],
 }
 
 pub struct Deleted {
@@ -107,7 +107,7 @@ pub struct Deleted {
 pub struct Lapse {
     pub answer: Expiration,
     pub gone: usize,
-    pub removed: [ActiveLock; 64],
+    pub removed: [ActiveLock; LockState::ACTIVE],
 }
 
 pub struct Expired {
@@ -124,7 +124,7 @@ pub struct Acknowledged {
 pub struct Shed {
     pub answer: DefunctExpiry,
     pub gone: usize,
-    pub ids: [LockId; 128],
+    pub ids: [LockId; LockState::DEFUNCT],
 }
 
 pub struct DefunctsExpired {

@@ -6,6 +6,7 @@ use crate::trees;
 use ids::LockId;
 use state::ActiveLock;
 use state::DefunctLock;
+use state::LockState;
 ghost use mathlib.Core.Option.{some};
 ghost use mathlib.Core.Path.{_≡_};
 ghost use Prim.Native.Nat.{ℕ, _≤_};
@@ -26,7 +27,7 @@ pub(crate) fn check_list(list: &[u64]) -> Answer
 }
 
 // ---- 1
-pub(crate) fn id_defunct(t: [DefunctLock; 128], m: usize, id: LockId) -> bool
+pub(crate) fn id_defunct(t: [DefunctLock; LockState::DEFUNCT], m: usize, id: LockId) -> bool
     requires { ⌜ m ≤ 128 ⌝ }
     ensures { λ r. ⌜ r ≡ any (hasIdD id) (take m t) ⌝ }
 {
@@ -42,9 +43,9 @@ pub(crate) fn id_defunct(t: [DefunctLock; 128], m: usize, id: LockId) -> bool
 }
 
 pub(crate) fn check_id(
-    l: [ActiveLock; 64],
+    l: [ActiveLock; LockState::ACTIVE],
     n: usize,
-    t: [DefunctLock; 128],
+    t: [DefunctLock; LockState::DEFUNCT],
     m: usize,
     x: ActiveLock,
 ) -> Answer
@@ -59,7 +60,7 @@ pub(crate) fn check_id(
 }
 
 // ---- 2
-pub(crate) fn check_scope(l: [ActiveLock; 64], n: usize, x: ActiveLock) -> Answer
+pub(crate) fn check_scope(l: [ActiveLock; LockState::ACTIVE], n: usize, x: ActiveLock) -> Answer
     requires { ⌜ n ≤ 64 ⌝ }
     ensures { λ r. ⌜ r ≡ checkScope (take n l) x ⌝ }
 {
@@ -96,7 +97,7 @@ fn check_parent(x: ActiveLock, p: ActiveLock) -> Answer
     Answer::Done
 }
 
-fn check_nesting(l: [ActiveLock; 64], n: usize, x: ActiveLock) -> Answer
+fn check_nesting(l: [ActiveLock; LockState::ACTIVE], n: usize, x: ActiveLock) -> Answer
     requires { ⌜ n ≤ 64 ⌝ }
     ensures { λ r. ⌜ r ≡ checkNesting (take n l) x ⌝ }
 {
@@ -126,7 +127,7 @@ fn in_conflict(x: ActiveLock, a: ActiveLock) -> bool
         & !state::is_vehicle(s)
 }
 
-fn check_clear(l: [ActiveLock; 64], n: usize, x: ActiveLock) -> Answer
+fn check_clear(l: [ActiveLock; LockState::ACTIVE], n: usize, x: ActiveLock) -> Answer
     requires { ⌜ n ≤ 64 ⌝ }
     ensures { λ r. ⌜ r ≡ checkClear (take n l) x ⌝ }
 {
@@ -143,7 +144,7 @@ fn check_clear(l: [ActiveLock; 64], n: usize, x: ActiveLock) -> Answer
 }
 
 // 2, 4, 5, 11.3, 11.4, 7
-pub(crate) fn check_insert(l: [ActiveLock; 64], n: usize, x: ActiveLock) -> Answer
+pub(crate) fn check_insert(l: [ActiveLock; LockState::ACTIVE], n: usize, x: ActiveLock) -> Answer
     requires { ⌜ n ≤ 64 ⌝ }
     ensures { λ r. ⌜ r ≡ checkInsert (take n l) x ⌝ }
 {
@@ -186,7 +187,12 @@ fn told_child(x: ActiveLock, a: ActiveLock) -> Answer
     Answer::OtherOwner(id, up)
 }
 
-pub(crate) fn check_taken(l: [ActiveLock; 64], n: usize, takes: [bool; 64], x: ActiveLock) -> Answer
+pub(crate) fn check_taken(
+    l: [ActiveLock; LockState::ACTIVE],
+    n: usize,
+    takes: [bool; LockState::ACTIVE],
+    x: ActiveLock,
+) -> Answer
     requires { ⌜ n ≤ 64 ⌝ }
     ensures { λ r. ⌜ r ≡ toldChild x (find (misfit x) (flagged (take n takes) (take n l))) ⌝ }
 {

@@ -27,7 +27,7 @@ fn kept(a: Deletion, s: LockState) -> Deleted
         told: Removal {
             answer: a,
             gone: 0,
-            removed: [b; 64],
+            removed: [b; LockState::ACTIVE],
         },
         state: s,
     }
@@ -87,7 +87,7 @@ fn stays(a: Expiration, s: LockState) -> Expired
         told: Lapse {
             answer: a,
             gone: 0,
-            removed: [b; 64],
+            removed: [b; LockState::ACTIVE],
         },
         state: s,
     }

@@ -24,7 +24,7 @@ ghost use Rattle.operations.specs.Insert.{insertedIn, judgeInsert, close
 ghost use Rattle.operations.specs.Code.{Placed, Ready, placeOf};
 
 // ---- a lock put in order
-fn place_of(l: [ActiveLock; 64], n: usize, id: LockId) -> usize
+fn place_of(l: [ActiveLock; LockState::ACTIVE], n: usize, id: LockId) -> usize
     requires { ⌜ n ≤ 64 ⌝ }
     ensures { λ r. ⌜ r ≡ placeOf akey id (take n l) ⌝ }
 {
@@ -39,7 +39,12 @@ fn place_of(l: [ActiveLock; 64], n: usize, id: LockId) -> usize
     n
 }
 
-fn open_at(mut l: [ActiveLock; 64], n: usize, k: usize, x: ActiveLock) -> [ActiveLock; 64]
+fn open_at(
+    mut l: [ActiveLock; LockState::ACTIVE],
+    n: usize,
+    k: usize,
+    x: ActiveLock,
+) -> [ActiveLock; LockState::ACTIVE]
     requires { ⌜ (k ≤ n) × (n < 64) ⌝ }
     ensures { λ r. ⌜ r ≡ opened l k n x ⌝ }
 {
@@ -53,7 +58,11 @@ fn open_at(mut l: [ActiveLock; 64], n: usize, k: usize, x: ActiveLock) -> [Activ
     l
 }
 
-pub(crate) fn put_in(l: [ActiveLock; 64], n: usize, x: ActiveLock) -> [ActiveLock; 64]
+pub(crate) fn put_in(
+    l: [ActiveLock; LockState::ACTIVE],
+    n: usize,
+    x: ActiveLock,
+) -> [ActiveLock; LockState::ACTIVE]
     requires { ⌜ Placed l n × (n < 64) ⌝ }
     ensures { λ r. ⌜ r ≡ inPlaces 64 blankActive (insertBy akey x (take n l)) ⌝ }
 {
@@ -65,7 +74,7 @@ pub(crate) fn put_in(l: [ActiveLock; 64], n: usize, x: ActiveLock) -> [ActiveLoc
 pub(crate) fn check_room(n: usize) -> Answer
     ensures { λ r. ⌜ r ≡ refuseIf (eqb n 64) NoRoom Done ⌝ }
 {
-    if n == 64 {
+    if n == LockState::ACTIVE {
         return Answer::NoRoom;
     }
     Answer::Done

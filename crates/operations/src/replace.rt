@@ -35,7 +35,7 @@ ghost use Rattle.operations.specs.Replace.{orphan, enteredOf, replaced, 
 ghost use Rattle.operations.specs.Code.{Placed, Ready, Cut, partsOf, tableOf, flagged, misfit, leftOn};
 
 // ---- 3: the lowest listed root that is missing
-fn check_roots(l: [ActiveLock; 64], n: usize, list: &[u64]) -> Answer
+fn check_roots(l: [ActiveLock; LockState::ACTIVE], n: usize, list: &[u64]) -> Answer
     requires { ⌜ n ≤ 64 ⌝ }
     ensures { λ r. ⌜ r ≡ checkRoots (take n l) (now (list .entry)) ⌝ }
 {
@@ -63,7 +63,7 @@ fn check_roots(l: [ActiveLock; 64], n: usize, list: &[u64]) -> Answer
 
 // ---- 6
 // Whether a is in the tree of a listed root.
-fn in_trees(l: [ActiveLock; 64], n: usize, list: &[u64], a: ActiveLock) -> bool
+fn in_trees(l: [ActiveLock; LockState::ACTIVE], n: usize, list: &[u64], a: ActiveLock) -> bool
     requires { ⌜ n ≤ 64 ⌝ }
     ensures { λ r. ⌜ r ≡ inTrees (now (list .entry)) (take n l) a ⌝ }
 {
@@ -81,7 +81,7 @@ fn in_trees(l: [ActiveLock; 64], n: usize, list: &[u64], a: ActiveLock) -> bool
 }
 
 // Whether a holder of the scope is outside the trees.
-fn held_outside(l: [ActiveLock; 64], n: usize, list: &[u64], x: ActiveLock) -> bool
+fn held_outside(l: [ActiveLock; LockState::ACTIVE], n: usize, list: &[u64], x: ActiveLock) -> bool
     requires { ⌜ n ≤ 64 ⌝ }
     ensures { λ r. ⌜ r ≡ any (outside (now (list .entry)) (take n l) x) (take n l) ⌝ }
 {
@@ -100,7 +100,7 @@ fn held_outside(l: [ActiveLock; 64], n: usize, list: &[u64], x: ActiveLock) -> b
     false
 }
 
-fn check_holder(l: [ActiveLock; 64], n: usize, list: &[u64], x: ActiveLock) -> Answer
+fn check_holder(l: [ActiveLock; LockState::ACTIVE], n: usize, list: &[u64], x: ActiveLock) -> Answer
     requires { ⌜ n ≤ 64 ⌝ }
     ensures { λ r. ⌜ r ≡ checkHolder (take n l) (now (list .entry)) x ⌝ }
 {
@@ -145,11 +145,15 @@ fn is_orphan(x: ActiveLock, a: ActiveLock) -> bool
         & (a.lock.subject == x.lock.subject)
 }
 
-fn orphan_marks(l: [ActiveLock; 64], n: usize, x: ActiveLock) -> [bool; 64]
+fn orphan_marks(
+    l: [ActiveLock; LockState::ACTIVE],
+    n: usize,
+    x: ActiveLock,
+) -> [bool; LockState::ACTIVE]
     requires { ⌜ n ≤ 64 ⌝ }
     ensures { λ r. ⌜ r ≡ inPlaces 64 false (map (orphan x) (take n l)) ⌝ }
 {
-    let mut takes = [false; 64];
+    let mut takes = [false; LockState::ACTIVE];
     let mut i: usize = 0;
     while i < n {
         let a = l[i];
@@ -162,9 +166,9 @@ fn orphan_marks(l: [ActiveLock; 64], n: usize, x: ActiveLock) -> [bool; 64]
 // What is judged on the locks that stay: 2, 4, 5, 11.3, 11.4, 7, 8, 11.4 of those taken in.
 fn judged_left(
     revision: u64,
-    l: [ActiveLock; 64],
+    l: [ActiveLock; LockState::ACTIVE],
     n: usize,
-    takes: [bool; 64],
+    takes: [bool; LockState::ACTIVE],
     x: ActiveLock,
 ) -> Answer
     requires { ⌜ n ≤ 64 ⌝ }
@@ -184,9 +188,9 @@ fn judged_left(
 // ---- the change
 // The locks that went are entered as broken, and what the new lock covers goes.
 fn entered(
-    t: [DefunctLock; 128],
+    t: [DefunctLock; LockState::DEFUNCT],
     m: usize,
-    g: [ActiveLock; 64],
+    g: [ActiveLock; LockState::ACTIVE],
     gone: usize,
     x: ActiveLock,
     by: u32,
@@ -208,14 +212,19 @@ fn refused(a: Answer, s: LockState) -> Replaced
         told: Replacement {
             answer: a,
             gone: 0,
-            removed: [b; 64],
+            removed: [b; LockState::ACTIVE],
         },
         state: s,
     }
 }
 
 // The closing check, as the original's validate_invariants.
-fn closed(s: LockState, next: LockState, gone: usize, removed: [ActiveLock; 64]) -> Replaced
+fn closed(
+    s: LockState,
+    next: LockState,
+    gone: usize,
+    removed: [ActiveLock; LockState::ACTIVE],
+) -> Replaced
     requires { ⌜ Placed removed gone ⌝ }
     ensures { λ r. ⌜ r ≡ closedReplace s (take gone removed) next ⌝ }
 {
@@ -248,7 +257,7 @@ fn settled(s: LockState, q: Split, x: ActiveLock, by: u32, at: u64) -> Replaced
     let t = s.defunct;
     let g = q.removed;
     let u = entered(t, s.defuncts, g, q.gone, x, by, at);
-    if (n == 64) | (128 < u.count) {
+    if (n == LockState::ACTIVE) | (LockState::DEFUNCT < u.count) {
         return refused(Answer::NoRoom, s);
     }
     let c = vehicle::taken_in(l, n, takes, x);

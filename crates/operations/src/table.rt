@@ -3,6 +3,7 @@
 use ids::LockId;
 use state::ActiveLock;
 use state::DefunctLock;
+use state::LockState;
 ghost use mathlib.Core.List.{map};
 ghost use mathlib.Core.Path.{_≡_};
 ghost use Prim.Native.Nat.{_≤_};
@@ -13,19 +14,22 @@ ghost use Rattle.state.specs.Locks.{blankDefunct};
 ghost use Rattle.operations.specs.Table.{removeD, removeAll, superseded, supersede, toDefunct, enterAll};
 ghost use Rattle.operations.specs.Code.{flagged, unflagged, tookOver, handOn, entriesOf, tableOf, Laid, Ranked};
 
+// Room for every defunct entry, and for every active lock beside them.
+pub(crate) const PLACES: usize = LockState::ACTIVE + LockState::DEFUNCT;
+
 // The entries in the first places, ascending by id; blanks after them.
 pub(crate) struct Table {
     pub count: usize,
-    pub entries: [DefunctLock; 192],
+    pub entries: [DefunctLock; PLACES],
 }
 
 // ---- there and back
-pub(crate) fn widened(l: [DefunctLock; 128], n: usize) -> Table
+pub(crate) fn widened(l: [DefunctLock; LockState::DEFUNCT], n: usize) -> Table
     requires { ⌜ n ≤ 128 ⌝ }
     ensures { λ r. ⌜ r ≡ tableOf (take n l) ⌝ }
 {
     let b = state::blank_defunct();
-    let mut out = [b; 192];
+    let mut out = [b; PLACES];
     let mut i: usize = 0;
     while i < n {
         out[i] = l[i];
@@ -37,13 +41,13 @@ pub(crate) fn widened(l: [DefunctLock; 128], n: usize) -> Table
     }
 }
 
-pub(crate) fn narrowed(t: Table) -> [DefunctLock; 128]
+pub(crate) fn narrowed(t: Table) -> [DefunctLock; LockState::DEFUNCT]
     requires { ⌜ t .count ≤ 128 ⌝ }
     ensures { λ r. ⌜ r ≡ inPlaces 128 blankDefunct (entriesOf t) ⌝ }
 {
     let n = t.count;
     let b = state::blank_defunct();
-    let mut out = [b; 128];
+    let mut out = [b; LockState::DEFUNCT];
     let mut i: usize = 0;
     while i < n {
         out[i] = t.entries[i];
@@ -70,7 +74,7 @@ fn took_over(e: DefunctLock, d: DefunctLock) -> DefunctLock
 }
 
 // Each entry that goes, ascending, hands its target and holder on to those that point at it.
-fn handed_on(l: [DefunctLock; 192], n: usize, goes: [bool; 192]) -> [DefunctLock; 192]
+fn handed_on(l: [DefunctLock; PLACES], n: usize, goes: [bool; PLACES]) -> [DefunctLock; PLACES]
     requires { ⌜ n ≤ 192 ⌝ }
     ensures { λ r. ⌜ take n r ≡ handOn goes n (take n l) ⌝ }
 {
@@ -96,12 +100,12 @@ fn handed_on(l: [DefunctLock; 192], n: usize, goes: [bool; 192]) -> [DefunctLock
 }
 
 // Those that stay are written into a fresh table.
-fn sifted(l: [DefunctLock; 192], n: usize, goes: [bool; 192]) -> Table
+fn sifted(l: [DefunctLock; PLACES], n: usize, goes: [bool; PLACES]) -> Table
     requires { ⌜ n ≤ 192 ⌝ }
     ensures { λ r. ⌜ r ≡ tableOf (unflagged (take n goes) (take n l)) ⌝ }
 {
     let b = state::blank_defunct();
-    let mut out = [b; 192];
+    let mut out = [b; PLACES];
     let mut w: usize = 0;
     let mut i: usize = 0;
     while i < n {
@@ -119,7 +123,7 @@ fn sifted(l: [DefunctLock; 192], n: usize, goes: [bool; 192]) -> Table
 }
 
 // The marked entries go.
-pub(crate) fn shed(t: Table, goes: [bool; 192]) -> Table
+pub(crate) fn shed(t: Table, goes: [bool; PLACES]) -> Table
     requires { ⌜ Ranked t ⌝ }
     ensures { λ r. ⌜ r ≡ tableOf (removeAll (flagged (take (t .count) goes) (entriesOf t)) (entriesOf t)) ⌝ }
 {
@@ -134,7 +138,7 @@ pub(crate) fn splice(t: Table, id: LockId) -> Table
     ensures { λ r. ⌜ r ≡ tableOf (removeD id (entriesOf t)) ⌝ }
 {
     let n = t.count;
-    let mut goes = [false; 192];
+    let mut goes = [false; PLACES];
     let mut i: usize = 0;
     while i < n {
         let d = t.entries[i];
@@ -154,7 +158,7 @@ pub(crate) fn is_superseded(x: ActiveLock, d: DefunctLock) -> bool
 }
 
 // Whether the new lock x covers one of the first n entries.
-pub(crate) fn any_superseded(l: [DefunctLock; 128], n: usize, x: ActiveLock) -> bool
+pub(crate) fn any_superseded(l: [DefunctLock; LockState::DEFUNCT], n: usize, x: ActiveLock) -> bool
     requires { ⌜ n ≤ 128 ⌝ }
     ensures { λ r. ⌜ r ≡ any (superseded x) (take n l) ⌝ }
 {
@@ -175,7 +179,7 @@ pub(crate) fn superseding(t: Table, x: ActiveLock) -> Table
     ensures { λ r. ⌜ r ≡ tableOf (supersede x (entriesOf t)) ⌝ }
 {
     let n = t.count;
-    let mut goes = [false; 192];
+    let mut goes = [false; PLACES];
     let mut some = false;
     let mut i: usize = 0;
     while i < n {
@@ -211,7 +215,7 @@ fn to_defunct(x: ActiveLock, by: u32, at: u64, a: ActiveLock) -> DefunctLock
 // The first n locks are entered as broken by x, each at its place: after each entry that it does not come before.
 pub(crate) fn enter_all(
     t: Table,
-    locks: [ActiveLock; 64],
+    locks: [ActiveLock; LockState::ACTIVE],
     n: usize,
     x: ActiveLock,
     by: u32,

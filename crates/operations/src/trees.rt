@@ -2,6 +2,7 @@
 // SPDX-License-Identifier: Apache-2.0
 use ids::LockId;
 use state::ActiveLock;
+use state::LockState;
 ghost use mathlib.Core.List.{map};
 ghost use mathlib.Core.Path.{_≡_};
 ghost use Prim.Native.Nat.{_≤_};
@@ -15,17 +16,17 @@ ghost use Rattle.operations.specs.Code.{picks, Placed, splitOf, partsIn,
 // The active locks: those that stay, and those that went, in the order of their going.
 pub(crate) struct Split {
     pub left: usize,
-    pub kept: [ActiveLock; 64],
+    pub kept: [ActiveLock; LockState::ACTIVE],
     pub gone: usize,
-    pub removed: [ActiveLock; 64],
+    pub removed: [ActiveLock; LockState::ACTIVE],
 }
 
 // The same as places in the list that came in, so that each lock is moved once, at the end.
 struct Places {
     left: usize,
-    kept: [usize; 64],
+    kept: [usize; LockState::ACTIVE],
     gone: usize,
-    went: [usize; 64],
+    went: [usize; LockState::ACTIVE],
 }
 
 fn child_of(r: ActiveLock, a: ActiveLock) -> bool
@@ -53,12 +54,12 @@ fn picked(step: u8, r: ActiveLock, a: ActiveLock) -> bool
 }
 
 // One step: the places that go are listed, and those that stay are written into a fresh list.
-fn take_out(s: Places, l: [ActiveLock; 64], step: u8, r: ActiveLock) -> Places
+fn take_out(s: Places, l: [ActiveLock; LockState::ACTIVE], step: u8, r: ActiveLock) -> Places
     requires { ⌜ Sorting s ⌝ }
     ensures { λ x. ⌜ x ≡ placesOf (takeHalves (picksAt step l r) (halvesOf s)) ⌝ }
 {
     let n = s.left;
-    let mut kept = [0usize; 64];
+    let mut kept = [0usize; LockState::ACTIVE];
     let mut w: usize = 0;
     let mut went = s.went;
     let mut g = s.gone;
@@ -84,7 +85,7 @@ fn take_out(s: Places, l: [ActiveLock; 64], step: u8, r: ActiveLock) -> Places
 }
 
 // The tree of r goes: its children, then what a group covers, then r.
-fn cut_tree(s: Places, l: [ActiveLock; 64], r: ActiveLock) -> Places
+fn cut_tree(s: Places, l: [ActiveLock; LockState::ACTIVE], r: ActiveLock) -> Places
     requires { ⌜ Sorting s ⌝ }
     ensures { λ x. ⌜ x ≡ placesOf (treeHalves l r (halvesOf s)) ⌝ }
 {
@@ -92,7 +93,7 @@ fn cut_tree(s: Places, l: [ActiveLock; 64], r: ActiveLock) -> Places
 }
 
 // Whether a lock that stays has the id.
-fn is_left(s: Places, l: [ActiveLock; 64], id: LockId) -> bool
+fn is_left(s: Places, l: [ActiveLock; LockState::ACTIVE], id: LockId) -> bool
     requires { ⌜ Sorting s ⌝ }
     ensures { λ r. ⌜ r ≡ any (hasId id) (map (lockAt l) (halvesOf s .kept)) ⌝ }
 {
@@ -110,7 +111,7 @@ fn is_left(s: Places, l: [ActiveLock; 64], id: LockId) -> bool
 }
 
 // A root that went with an earlier tree takes nothing with it.
-fn root_out(s: Places, l: [ActiveLock; 64], r: ActiveLock) -> Places
+fn root_out(s: Places, l: [ActiveLock; LockState::ACTIVE], r: ActiveLock) -> Places
     requires { ⌜ Sorting s ⌝ }
     ensures { λ x. ⌜ x ≡ placesOf (rootHalves l r (halvesOf s)) ⌝ }
 {
@@ -124,7 +125,7 @@ fn all_places(n: usize) -> Places
     requires { ⌜ n ≤ 64 ⌝ }
     ensures { λ x. ⌜ x ≡ placesOf (startHalves n) ⌝ }
 {
-    let mut kept = [0usize; 64];
+    let mut kept = [0usize; LockState::ACTIVE];
     let mut i: usize = 0;
     while i < n {
         kept[i] = i;
@@ -134,17 +135,21 @@ fn all_places(n: usize) -> Places
         left: n,
         kept: kept,
         gone: 0,
-        went: [0usize; 64],
+        went: [0usize; LockState::ACTIVE],
     }
 }
 
 // The locks at the first n of these places.
-fn gathered(l: [ActiveLock; 64], places: [usize; 64], n: usize) -> [ActiveLock; 64]
+fn gathered(
+    l: [ActiveLock; LockState::ACTIVE],
+    places: [usize; LockState::ACTIVE],
+    n: usize,
+) -> [ActiveLock; LockState::ACTIVE]
     requires { ⌜ (n ≤ 64) × Low (take n places) ⌝ }
     ensures { λ x. ⌜ x ≡ inPlaces 64 blankActive (map (lockAt l) (take n places)) ⌝ }
 {
     let b = state::blank_active();
-    let mut out = [b; 64];
+    let mut out = [b; LockState::ACTIVE];
     let mut i: usize = 0;
     while i < n {
         let j = places[i];
@@ -154,7 +159,7 @@ fn gathered(l: [ActiveLock; 64], places: [usize; 64], n: usize) -> [ActiveLock; 
     out
 }
 
-fn moved(s: Places, l: [ActiveLock; 64]) -> Split
+fn moved(s: Places, l: [ActiveLock; LockState::ACTIVE]) -> Split
     requires { ⌜ Sorting s ⌝ }
     ensures { λ x. ⌜ x ≡ splitOf (partsIn l (halvesOf s)) ⌝ }
 {
@@ -169,7 +174,7 @@ fn moved(s: Places, l: [ActiveLock; 64]) -> Split
 }
 
 // The first n locks without the tree of r.
-pub(crate) fn tree_out(l: [ActiveLock; 64], n: usize, r: ActiveLock) -> Split
+pub(crate) fn tree_out(l: [ActiveLock; LockState::ACTIVE], n: usize, r: ActiveLock) -> Split
     requires { ⌜ Placed l n ⌝ }
     ensures { λ x. ⌜ x ≡ splitOf (treeParts r (startParts (take n l))) ⌝ }
 {
@@ -178,7 +183,7 @@ pub(crate) fn tree_out(l: [ActiveLock; 64], n: usize, r: ActiveLock) -> Split
 }
 
 // The first n locks without the trees of the listed roots, ascending, each from what then remains.
-pub(crate) fn roots_out(l: [ActiveLock; 64], n: usize, list: &[u64]) -> Split
+pub(crate) fn roots_out(l: [ActiveLock; LockState::ACTIVE], n: usize, list: &[u64]) -> Split
     requires { ⌜ Placed l n ⌝ }
     ensures { λ x. ⌜ x ≡ splitOf (rootsParts (now (list .entry)) (take n l)) ⌝ }
 {
@@ -195,7 +200,7 @@ pub(crate) fn roots_out(l: [ActiveLock; 64], n: usize, list: &[u64]) -> Split
 }
 
 // Whether one of the first n locks has the id.
-pub(crate) fn id_active(l: [ActiveLock; 64], n: usize, id: LockId) -> bool
+pub(crate) fn id_active(l: [ActiveLock; LockState::ACTIVE], n: usize, id: LockId) -> bool
     requires { ⌜ n ≤ 64 ⌝ }
     ensures { λ r. ⌜ r ≡ any (hasId id) (take n l) ⌝ }
 {

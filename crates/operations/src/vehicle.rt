@@ -44,7 +44,7 @@ fn is_settled(a: ActiveLock) -> bool
 }
 
 // Whether the id names none of the first n locks, or one that can't be a child.
-fn is_unfit(l: [ActiveLock; 64], n: usize, id: LockId) -> bool
+fn is_unfit(l: [ActiveLock; LockState::ACTIVE], n: usize, id: LockId) -> bool
     requires { ⌜ n ≤ 64 ⌝ }
     ensures { λ r. ⌜ r ≡ unfitId (take n l) id ⌝ }
 {
@@ -63,7 +63,7 @@ fn is_unfit(l: [ActiveLock; 64], n: usize, id: LockId) -> bool
 }
 
 // The lowest listed id that is unfit.
-fn check_listed(l: [ActiveLock; 64], n: usize, list: &[u64]) -> Answer
+fn check_listed(l: [ActiveLock; LockState::ACTIVE], n: usize, list: &[u64]) -> Answer
     requires { ⌜ n ≤ 64 ⌝ }
     ensures { λ r. ⌜ r ≡ checkListed (take n l) (now (list .entry)) ⌝ }
 {
@@ -93,11 +93,15 @@ fn check_listed(l: [ActiveLock; 64], n: usize, list: &[u64]) -> Answer
 }
 
 // Which of the first n locks are listed.
-fn listed_marks(l: [ActiveLock; 64], n: usize, list: &[u64]) -> [bool; 64]
+fn listed_marks(
+    l: [ActiveLock; LockState::ACTIVE],
+    n: usize,
+    list: &[u64],
+) -> [bool; LockState::ACTIVE]
     requires { ⌜ n ≤ 64 ⌝ }
     ensures { λ r. ⌜ r ≡ inPlaces 64 false (map (isListed (now (list .entry))) (take n l)) ⌝ }
 {
-    let mut takes = [false; 64];
+    let mut takes = [false; LockState::ACTIVE];
     let mut i: usize = 0;
     while i < n {
         let a = l[i];
@@ -107,7 +111,7 @@ fn listed_marks(l: [ActiveLock; 64], n: usize, list: &[u64]) -> [bool; 64]
     takes
 }
 
-fn judged(s: LockState, takes: [bool; 64], list: &[u64], x: ActiveLock) -> Answer
+fn judged(s: LockState, takes: [bool; LockState::ACTIVE], list: &[u64], x: ActiveLock) -> Answer
     requires { ⌜ Tidy s × (takes ≡ inPlaces 64 false (map (isListed (now list)) (modelOf s .active))) ⌝ }
     ensures { λ r. ⌜ r ≡ judgeVehicle full (modelOf s) x (now (list .entry)) ⌝ }
 {
@@ -159,11 +163,11 @@ fn nested(x: ActiveLock, a: ActiveLock) -> ActiveLock
 
 // The marked locks become children of x.
 pub(crate) fn taken_in(
-    mut l: [ActiveLock; 64],
+    mut l: [ActiveLock; LockState::ACTIVE],
     n: usize,
-    takes: [bool; 64],
+    takes: [bool; LockState::ACTIVE],
     x: ActiveLock,
-) -> [ActiveLock; 64]
+) -> [ActiveLock; LockState::ACTIVE]
     requires { ⌜ n ≤ 64 ⌝ }
     ensures { λ r. ⌜ r ≡ altered (nest x) (take n takes) l ⌝ }
 {

@@ -25,14 +25,14 @@ pub fn broken(s: LockState) -> Verdict
 {
     let n = s.actives;
     let m = s.defuncts;
-    if 64 < n {
+    if LockState::ACTIVE < n {
         return Verdict::Broken(0);
     }
-    if 128 < m {
+    if LockState::DEFUNCT < m {
         return Verdict::Broken(0);
     }
     let mut a = n;
-    while a < 64 {
+    while a < LockState::ACTIVE {
         let x = s.active[a];
         if !shapes::empty_active(x) {
             return Verdict::Broken(0);
@@ -40,20 +40,20 @@ pub fn broken(s: LockState) -> Verdict
         a += 1;
     }
     let mut d = m;
-    while d < 128 {
+    while d < LockState::DEFUNCT {
         let y = s.defunct[d];
         if !shapes::empty_defunct(y) {
             return Verdict::Broken(0);
         }
         d += 1;
     }
-    let mut list = [0u64; 128];
-    let mut parents = [0u64; 128];
+    let mut list = [0u64; 2 * LockState::ACTIVE];
+    let mut parents = [0u64; 2 * LockState::ACTIVE];
     let mut words = [0u64; 256];
-    let mut whole = [false; 64];
-    let mut child = [false; 64];
-    let mut kinds = [0usize; 64];
-    let mut subjects = [0u16; 64];
+    let mut whole = [false; LockState::ACTIVE];
+    let mut child = [false; LockState::ACTIVE];
+    let mut kinds = [0usize; LockState::ACTIVE];
+    let mut subjects = [0u16; LockState::ACTIVE];
     let mut i: usize = 0;
     while i < n {
         let x = s.active[i];

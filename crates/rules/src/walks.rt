@@ -2,6 +2,7 @@
 // place to place, and a table of steps is doubled until its steps reach past every entry.
 // SPDX-License-Identifier: Apache-2.0
 use crate::places;
+use state::LockState;
 ghost use mathlib.Core.Path.{_≡_};
 ghost use Prim.Native.Nat.{ℕ, _+_, _*_, _≤_, _<_};
 ghost use lib.Dec.{leb};
@@ -10,11 +11,16 @@ ghost use Rattle.lists.specs.Below.{allBelow};
 ghost use Rattle.rules.specs.Places.{keyAt, Sought, Sorted, Slotted, jump, LeadsOut};
 
 // For each of n places the place that its target has; n where the target is no entry.
-pub(crate) fn steps(slots: &[u8], list: &[u64], n: usize, targets: &[u64]) -> [usize; 128]
+pub(crate) fn steps(
+    slots: &[u8],
+    list: &[u64],
+    n: usize,
+    targets: &[u64],
+) -> [usize; LockState::DEFUNCT]
     requires { ⌜ (n ≤ 128) × (2 * n ≤ length (now list)) × Sorted (keyAt (now list)) n × Slotted (now list) n (now slots) × (2 * n ≤ length (now targets)) ⌝ }
     ensures { λ r. ⌜ ((i : ℕ) → i < n → Sought (keyAt (now (list .entry))) n (keyAt (now (targets .entry)) i) (getD r i 0)) ⌝ }
 {
-    let mut out = [0usize; 128];
+    let mut out = [0usize; LockState::DEFUNCT];
     let mut i: usize = 0;
     while i < n {
         let k = places::found(slots, list, n, places::id_at(targets, i));
@@ -25,11 +31,11 @@ pub(crate) fn steps(slots: &[u8], list: &[u64], n: usize, targets: &[u64]) -> [u
 }
 
 // Where two steps lead, for a table that says where one does. A place that is not below n is out, and stays.
-fn doubled(t: &[usize], n: usize) -> [usize; 128]
+fn doubled(t: &[usize], n: usize) -> [usize; LockState::DEFUNCT]
     requires { ⌜ (n ≤ 128) × (n ≤ length (now t)) ⌝ }
     ensures { λ r. ⌜ ((i : ℕ) → i < n → getD r i 0 ≡ jump (now (t .entry)) n (jump (now (t .entry)) n i)) ⌝ }
 {
-    let mut out = [0usize; 128];
+    let mut out = [0usize; LockState::DEFUNCT];
     let mut i: usize = 0;
     while i < n {
         let j = t[i];
@@ -56,7 +62,7 @@ fn all_out(t: &[usize], n: usize) -> bool
 }
 
 // Whether every walk along the table leads out of its n places.
-pub(crate) fn leads_out(t: [usize; 128], n: usize) -> bool
+pub(crate) fn leads_out(t: [usize; LockState::DEFUNCT], n: usize) -> bool
     requires { ⌜ n ≤ 128 ⌝ }
     ensures { λ r. ⌜ LeadsOut t n r ⌝ }
 {
