@@ -2,10 +2,9 @@
 -- Assumes nothing.
 use mathlib.Core.Path.{_≡_, refl, sym, subst, ap, ap₂, _∙_}
 use mathlib.Core.Logic.{_⊎_, inl, inr, ⊎-elim}
-use mathlib.Core.Bool.{Bool, true, false, _&&_, false≢true}
+use mathlib.Core.Bool.{Bool, true, false, false≢true}
 use Prim.Native.Nat.{ℕ, zero, suc, _+_, _*_, _/_, _%_, _<_}
 use native.Mathlib.Nat.{le-step, lt-suc-self, not-suc-le-zero, div-lt-iff-lt-mul, mod-lt}
-use native.Mathlib.Numerals.{add-one}
 use native.Mathlib.Decide.{ℕ-discrete}
 use native.Mathlib.Omega.{arith}
 use lib.Arith.{digits-lt, digits-div, digits-mod}
@@ -90,16 +89,6 @@ pub all-four : (f : ℕ → Bool) → allBelow 4 f ≡ (f 0 and f 1 and f 2 and 
 unfolding allBelow _and_
 all-four f = refl
 
--- ---- flags that a loop keeps
--- one more turn
-pub flag-more : (f t : Bool) (n : ℕ) (p : ℕ → Bool) → f ≡ allBelow n p → t ≡ p n → (f && t) ≡ allBelow (n + 1) p
-unfolding allBelow _and_
-flag-more f t n p e g = rw (e, g, add-one n) (go (allBelow n p) (p n))
-  where
-    go : (a b : Bool) → (a && b) ≡ (a and b)
-    go true b = refl
-    go false b = refl
-
 -- ---- every two numbers below n: each with those before it
 pub triangle : (n : ℕ) (r : ℕ → ℕ → Bool) → ((i : ℕ) → i < n → r i i ≡ true) → ((i j : ℕ) → i < n → j < n → r i j ≡ r j i) → allBelow n (λ i. allBelow n (r i)) ≡ allBelow n (λ i. allBelow i (r i))
 triangle n r d s = same-test (allBelow n (λ i. allBelow n (r i))) (allBelow n (λ i. allBelow i (r i)))
@@ -112,24 +101,3 @@ triangle n r d s = same-test (allBelow n (λ i. allBelow n (r i))) (allBelow n (
     at t i j h g false e false f =
         let q : j ≡ i = omega (arith, ltb-false i j e, ltb-false j i f) in
         subst (λ (k : ℕ). r i k ≡ true) (sym q) (d i h)
-
--- a flag over rows: at the start of a row, within it, at its end
-pub row-start : (f : Bool) (p : ℕ → Bool) → f ≡ (allBelow 0 p and f)
-unfolding allBelow _and_
-row-start f p = refl
-
-pub row-more : (f t x : Bool) (j : ℕ) (p : ℕ → Bool) → f ≡ (allBelow j p and x) → t ≡ p j → (f && t) ≡ (allBelow (j + 1) p and x)
-unfolding allBelow _and_
-row-more f t x j p e g = rw (e, g, add-one j) (swap (allBelow j p) (p j) x)
-  where
-    swap : (a b x : Bool) → ((a and x) && b) ≡ ((a and b) and x)
-    swap true true true = refl
-    swap true true false = refl
-    swap true false true = refl
-    swap true false false = refl
-    swap false true x = refl
-    swap false false x = refl
-
-pub row-end : (f : Bool) (i : ℕ) (r : ℕ → ℕ → Bool) → f ≡ (allBelow i (λ a. allBelow a (r a)) and allBelow i (r i)) → f ≡ allBelow (i + 1) (λ a. allBelow a (r a))
-unfolding allBelow
-row-end f i r e = rw (add-one i) e

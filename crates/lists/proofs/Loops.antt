@@ -112,8 +112,3 @@ module _ {A : Type 0} (p : A → Bool) where
   pub filter-none : (l : List A) → any p l ≡ false → filter p l ≡ []
   filter-none [] e = refl
   filter-none (x ∷ xs) e = let w = or-no (p x) (any p xs) e in rw (w .0) (filter-none xs (w .1))
-
-  -- what passes the others' test
-  pub filter-all : (q : A → Bool) → ((a : A) → p a ≡ false → q a ≡ true) → (l : List A) → any p l ≡ false → filter q l ≡ l
-  filter-all q f [] e = refl
-  filter-all q f (x ∷ xs) e = let w = or-no (p x) (any p xs) e in rw (f x (w .0)) (ap (λ (t : List A). x ∷ t) (filter-all q f xs (w .1)))

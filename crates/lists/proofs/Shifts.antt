@@ -8,7 +8,7 @@ use Prim.Native.Nat.{ℕ, zero, suc, _+_, _-_, _≤_, _<_}
 use native.Mathlib.Numerals.{add-one}
 use native.Mathlib.Omega.{arith}
 use lib.ListN.{length, getD, set, take, drop, replicate, take-append-drop, length-append, length-take, length-drop, List·getD-append}
-use lib.Seq.{slice, take-take, drop-at, slice-empty, slice-cons, take-suc, drop-cons, append-snoc, set-at, getD-at, getD-take, getD-append-add, getD-drop, drop-append-le, drop-append-add, length-take-le, length-slice}
+use lib.Seq.{slice, take-take, drop-at, slice-empty, slice-cons, take-suc, append-snoc, set-at, getD-at, getD-take, getD-append-add, getD-drop, drop-append-add, length-take-le, length-slice}
 use Rattle.lists.specs.Places.{opened, inPlaces, leading}
 use Rattle.lists.specs.Tests.{non}
 use Rattle.lists.specs.Lists.{insertBy}
@@ -18,14 +18,6 @@ use Prim.Native.Nat.{zero-le, suc-le-suc}
 use Rattle.lists.proofs.Loops.{rest-step, more}
 
 module _ {A : Type 0} where
-  -- ---- the laws of lib.Seq at the code's `i + 1`
-  pub drop-one : (l : List A) (j : ℕ) (d : A) → j < length l → drop j l ≡ getD l j d ∷ drop (j + 1) l
-  drop-one l j d h = rw (add-one, drop-cons l j d)
-
-  pub slice-more : (l : List A) (f t : ℕ) (d : A) → f ≤ t → t < length l → slice f (t + 1) l ≡ slice f t l ++ (getD l t d ∷ [])
-  slice-more l f t d h k =
-      let e : f ≤ length (take t l) = simp length-take (omega arith) in rw (more l t d k, drop-append-le f (take t l) (getD l t d ∷ []) e)
-
   -- a store at the last element of the first part
   pub set-last : (p r : List A) (y v : A) (n : ℕ) → length p ≡ n → set ((p ++ (y ∷ [])) ++ r) n v ≡ p ++ v ∷ r
   set-last p r y v n e = rw (append-assoc p (y ∷ []) r) (set-at p y r v n e)

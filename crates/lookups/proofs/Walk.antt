@@ -81,10 +81,6 @@ ahead-is : {t : List DefunctLock} {k : ℕ} (r : Ends t k) → ahead t k ≡ pas
 unfolding ahead
 ahead-is {t} {k} r = counted-all (length t) r (passed-le (length t) r (leaves-all t r))
 
-pub ahead-out : (t : List DefunctLock) (k : ℕ) → findD t k ≡ none → ahead t k ≡ 0
-unfolding passed
-ahead-out t k e = ahead-is (done e)
-
 pub ahead-on : (t : List DefunctLock) (k : ℕ) → Ends t k → (d : DefunctLock) → findD t k ≡ some d → ahead t k ≡ suc (ahead t (key (d .target)))
 unfolding passed
 ahead-on t k (done e) d f = absurd (Option·none-ne-some d (sym e ∙ f))

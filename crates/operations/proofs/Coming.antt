@@ -62,9 +62,6 @@ module _ (t : Table) (h : Laid t) (l : List ActiveLock) (x : ActiveLock) (by at 
 
   -- one more: k is its place, and then the entries from there on stand one place up
   module _ (g : i + t .count < 192) (d : DefunctLock) (k : ℕ) (f : k ≡ placeOf dkey (d .lock .id) (entriesOf out)) where
-    pub enter-place : k ≤ out .count
-    enter-place = omega (arith, f, place-le dkey (d .lock .id) d refl 192 blankDefunct (out .entries) (out .count) (laid-count out (out-laid (omega arith))))
-
     pub enter-is : with-places (out .count + 1) (opened (out .entries) k (out .count) d) ≡ tableOf (insertBy dkey d (entriesOf out))
     enter-is =
         let h : Laid out = out-laid (omega arith) in

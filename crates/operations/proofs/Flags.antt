@@ -167,11 +167,6 @@ module _ {A : Type 0} where
     alter-read (b ∷ bs) [] d = refl
     alter-read (b ∷ bs) (x ∷ xs) d = alter-read bs xs d
 
-    pub alter-long : (fs : List Bool) (l : List A) → length (altered g fs l) ≡ length l
-    alter-long [] l = refl
-    alter-long (b ∷ bs) [] = refl
-    alter-long (b ∷ bs) (x ∷ xs) = ap suc (alter-long bs xs)
-
     -- what stands past the marks stays
     pub alter-front : (fs : List Bool) (l r : List A) → length fs ≡ length l → altered g fs (l ++ r) ≡ altered g fs l ++ r
     alter-front [] [] r h = refl

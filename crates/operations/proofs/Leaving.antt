@@ -5,11 +5,11 @@ use mathlib.Core.Bool.{Bool, true, false, cond, not, false≢true}
 use mathlib.Core.List.{List, [], _∷_, _++_, map, List·Memᴰ·head}
 use mathlib.Core.Option.{Option, none, some}
 use mathlib.Core.Path.{_≡_, refl, sym, ap, _∙_}
-use Prim.Native.Nat.{ℕ, zero, suc, _+_, _-_, _≤_, _<_}
+use Prim.Native.Nat.{ℕ, zero, suc, _+_, _≤_, _<_}
 use native.Mathlib.Omega.{arith}
 use lib.Dec.{eqb}
 use native.Mathlib.Numerals.{add-one}
-use lib.ListN.{length, getD, set, take, replicate, length-map, length-take, length-append, length-replicate}
+use lib.ListN.{length, getD, set, take, length-map}
 use lib.Seq.{take-suc, length-take-le, getD-take}
 use borrow.Author.Tests.{eq-eqb, ne-eqb, eqb-true, eqb-false}
 use Rattle.lists.specs.Tests.{non, Yes}
@@ -195,9 +195,6 @@ module _ (goes : List Bool) (l out : List DefunctLock) (n i : ℕ) (h : i < n) (
 
 -- ---- the table
 module _ (t : Table) (h : Laid t) where
-  pub laid-long : t .count ≤ length (t .entries)
-  laid-long = omega (arith, ap (λ (x : Table). length (x .entries)) (h .same), h .room, length-append (entriesOf t) (replicate (192 - length (entriesOf t)) blankDefunct), length-replicate (192 - length (entriesOf t)) blankDefunct, length-take (t .count) (t .entries))
-
   pub laid-count : length (entriesOf t) ≡ t .count
   laid-count = ap (λ (x : Table). x .count) (h .same)
 

@@ -23,7 +23,6 @@ use Rattle.rules.specs.declared.Verdict.{Verdict}
 use Rattle.rules.specs.declared.Verdict.the-variants.{Sound, Broken}
 use Rattle.rules.specs.Rules.{brokenRule}
 use Rattle.rules.proofs.Sound.{facts-of-state}
-use Rattle.lookups.specs.Reads.{narrow}
 use Rattle.lookups.proofs.Verdicts.{on-broken, on-sound}
 use Rattle.operations.specs.declared.answers.Answer.{Answer}
 use Rattle.operations.specs.declared.answers.Answer.the-variants.{Done, ReplacementScopeConflict, NoRoom, Invariant, UnsoundState}
@@ -32,7 +31,7 @@ use Rattle.operations.specs.declared.table.Table.{Table}
 use Rattle.operations.specs.declared.trees.Split.{Split}
 use Rattle.operations.specs.Answers.{isDone, refuseIf, andThen}
 use Rattle.operations.specs.Table.{toDefunct, enterAll, supersede}
-use Rattle.operations.specs.Trees.{Parts, childOf, inTree}
+use Rattle.operations.specs.Trees.{Parts}
 use Rattle.operations.specs.Checks.{checkList, checkEntry, checkInsert, checkRevision, checkChildren, checkRoom, outside, checkHolder, toldChild, lastRevision}
 use Rattle.operations.specs.Vehicle.{nest, adopt}
 use Rattle.operations.specs.Replace.{orphan, cutOf, enteredOf, replacedIn, judgeReplace, replaced, closedReplace, settledReplace, commitReplacementOn}
@@ -47,10 +46,6 @@ use Rattle.operations.proofs.Adopting.{children-are, taken}
 use Rattle.operations.proofs.Ordering.{entered-order}
 
 -- ---- tests
-pub tree-is : (r a : ActiveLock) (p q s : Bool) → p ≡ childOf r a → q ≡ narrow r a → s ≡ hasId (r .lock .id) a → (p || q || s) ≡ inTree r a
-unfolding inTree
-tree-is r a p q s e f g = rw (e, f, g) (simp codes)
-
 pub orphan-is : (x a : ActiveLock) (v h : Bool) → v ≡ isVehicle (x .lock .scope) → h ≡ hasId (x .lock .id) a → (v && not h && not (a .child) && eqb (a .lock .subject) (x .lock .subject)) ≡ orphan x a
 unfolding orphan
 orphan-is x a v h e f = rw (e, f) (simp codes)

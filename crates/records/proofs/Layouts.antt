@@ -10,13 +10,6 @@ use Rattle.records.specs.Numbers.{part, splice, Field, size, valueOf, by
 use Rattle.records.specs.Layouts.{total, fieldsAt, pack, emit, Fit}
 use Rattle.records.proofs.Numbers.{Bytes, bytes-part, length-part, part-add, splice-splice, length-splice, splice-part, length-bytesOf, value-bytes, bytes-value, value-lt}
 
--- as many numbers as fields
-pub fit-count : (fs : List Field) (vs : List ℕ) → Fit fs vs → length vs ≡ length fs
-fit-count [] [] k = refl
-fit-count [] (v ∷ vs) k = absurd k
-fit-count (f ∷ fs) [] k = absurd k
-fit-count (f ∷ fs) (v ∷ vs) k = ap suc (fit-count fs vs (k .1))
-
 pub length-pack : (fs : List Field) (vs : List ℕ) → length vs ≡ length fs → length (pack fs vs) ≡ total fs
 unfolding pack
 length-pack [] vs k = refl
@@ -129,7 +122,3 @@ fit-append [] gs [] ws k m = m
 fit-append [] gs (v ∷ vs) ws k m = absurd k
 fit-append (f ∷ fs) gs [] ws k m = absurd k
 fit-append (f ∷ fs) gs (v ∷ vs) ws k m = (k .0, fit-append fs gs vs ws (k .1) m)
-
-pub total-append : (fs gs : List Field) → total (fs ++ gs) ≡ total fs + total gs
-total-append [] gs = sym (zero-add (total gs))
-total-append (f ∷ fs) gs = ap (λ (n : ℕ). size f + n) (total-append fs gs) ∙ sym (add-assoc (size f) (total fs) (total gs))

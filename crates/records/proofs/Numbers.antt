@@ -8,18 +8,13 @@ use native.Mathlib.Omega.{arith}
 use lib.Arith.{mod-mul}
 use lib.Dec.{lit<}
 use lib.ListN.{length, set, getD, take, drop, length-append, length-take, length-drop, length-reverse, take-append-drop}
-use lib.Seq.{set-split, append-snoc, take-add, drop-drop, take-at, drop-at, drop-cons, drop-append-add, length-take-le}
+use lib.Seq.{set-split, append-snoc, take-add, drop-drop, take-at, drop-cons, drop-append-add}
 use Rattle.records.specs.Numbers.{num, digits, part, splice, Field, little, big, size, valueOf, bytesOf, field}
 
 -- every element is a byte
 unfoldable pub Bytes : List ℕ → Type 0
 Bytes [] = Unit {0}
 Bytes (x ∷ xs) = (x < 256) × Bytes xs
-
-pub bytes-of : (s : List ℕ) → ((i : ℕ) → getD s i 0 < 256) → Bytes s
-unfolding Bytes
-bytes-of [] k = tt
-bytes-of (x ∷ xs) k = (k 0, bytes-of xs (λ i. k (suc i)))
 
 pub bytes-drop : (n : ℕ) (s : List ℕ) → Bytes s → Bytes (drop n s)
 unfolding Bytes
@@ -72,14 +67,6 @@ splice-splice s at k a b e h =
     ∙ ap (λ (l : List ℕ). take at s ++ a ++ b ++ l)
     (drop-past (take at s ++ a) (drop (at + length a) s) (at + k) (length b) lp ∙ drop-drop (length b) (at + length a) s ∙ ap (λ (n : ℕ). drop n s) es)
     ∙ ap (λ (l : List ℕ). l ++ drop (at + length (a ++ b)) s) (append-assoc (take at s) a b)
-
-pub part-splice : (s : List ℕ) (at k : ℕ) (b : List ℕ) → length b ≡ k → at + k ≤ length s → part (splice s at b) at k ≡ b
-unfolding splice
-part-splice s at k b e h =
-    let l : length (take at s) ≡ at = length-take-le at s (omega arith) in
-    ap (λ (x : List ℕ). take k (drop at x)) (append-assoc (take at s) b (drop (at + length b) s))
-    ∙ ap (take k) (drop-at (take at s) (b ++ drop (at + length b) s) at l)
-    ∙ take-at b (drop (at + length b) s) k e
 
 pub splice-part : (s : List ℕ) (at k : ℕ) → at + k ≤ length s → splice s at (part s at k) ≡ s
 unfolding splice

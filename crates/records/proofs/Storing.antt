@@ -10,17 +10,13 @@ use borrow.Author.Tests.{le-leb, lt-leb, leb-true, leb-false, not-true, not-fals
 use Rattle.lists.proofs.Tests.{cond-true, cond-false, same-test}
 use Rattle.records.specs.Numbers.{part, splice, stored, little, bytesOf}
 use Rattle.records.specs.Layouts.{total, emit}
-use Rattle.records.specs.Table.{rowOf, lengthOf, possible}
-use Rattle.records.specs.Framing.{spanOf, frameAt, recordOf}
+use Rattle.records.specs.Table.{lengthOf}
+use Rattle.records.specs.Framing.{recordOf}
 use Rattle.records.specs.Codecs.{Codec, encodeBy}
 use Rattle.records.proofs.Numbers.{length-bytesOf, length-splice, splice-splice}
 use Rattle.records.proofs.Layouts.{length-pack, emit-pack, splice-in-part}
 use Rattle.records.proofs.Codecs.{Lawful}
-use Rattle.records.specs.declared.kinds.Kind.{Kind}
-use Rattle.records.specs.declared.kinds.Row.the-variants.{Known}
-use Rattle.records.specs.declared.frame.Framed.the-variants.{Record}
-use Rattle.records.proofs.Table.{rule, possible-base, units-base}
-use Rattle.records.proofs.Framing.{length-record, frame-record, body-in}
+use Rattle.records.proofs.Framing.{length-record}
 
 -- a test for room, negated in the code
 pub room : (b : Bool) (m n : ℕ) → b ≡ leb m n → not b ≡ false → m ≤ n
@@ -88,22 +84,3 @@ pub from-end : (at m n : ℕ) → m ≤ n → leb at (n - m) ≡ leb (at + m) n
 from-end at m n h = same-test (leb at (n - m)) (leb (at + m) n)
     (λ t. le-leb (at + m) n (omega (arith, leb-true at (n - m) t)))
     (λ t. le-leb at (n - m) (omega (arith, leb-true (at + m) n t)))
-
--- A record that stands anywhere is framed where it stands, and its body is the part that the frame names.
-module _ {R : Type 0} (c : Codec R) (w : Lawful c) (k : ℕ) (x : Kind) (q : rowOf k ≡ Known x) (e : x .base ≡ total (c .layout) + 2) (p t : List ℕ) (at : ℕ) (l : length p ≡ at) (r : R) where
-  pub framed-there : frameAt (p ++ (recordOf k (encodeBy c r) ++ t)) at (x .place) ≡ Record (record { kind = k; start = at + 4; size = total (c .layout); units = 0; next = at + (total (c .layout) + 4) })
-  framed-there =
-      let n : length (encodeBy c r) + 2 ≡ x .base = ap (λ (m : ℕ). m + 2) (length-body c w r) ∙ sym e in
-      let u = rule k x q in
-      frame-record x k q p (encodeBy c r) t at l (ap (possible x) n ∙ possible-base x)
-      ∙ ap (λ (m : ℕ). Record (spanOf x m at)) n
-      ∙ (λ i. Record (record { kind = u .number i; start = at + 4; size = less i; units = units-base x i; next = more i }))
-    where
-      less : x .base - 2 ≡ total (c .layout)
-      less = omega arith
-
-      more : at + 2 + x .base ≡ at + (total (c .layout) + 4)
-      more = omega arith
-
-  pub body-there : part (p ++ (recordOf k (encodeBy c r) ++ t)) (at + 4) (total (c .layout)) ≡ encodeBy c r
-  body-there = ap (part (p ++ (recordOf k (encodeBy c r) ++ t)) (at + 4)) (sym (length-body c w r)) ∙ body-in k p (encodeBy c r) t at l

@@ -3,7 +3,7 @@ use mathlib.Core.Path.{_≡_, refl, sym, ap, _∙_, subst}
 use mathlib.Core.Bool.{Bool, true, false}
 use mathlib.Core.Option.{Option, none, some}
 use Prim.Native.Nat.{ℕ, _+_, _-_, _*_, _/_, _^_, _≤_, _<_}
-use native.Mathlib.Nat.{div-zero, zero-div, le-of-lt, mul-le-mul, mul-div-right, zero-mul, mul-zero}
+use native.Mathlib.Nat.{div-zero, zero-div, le-of-lt, mul-le-mul, mul-div-right, zero-mul}
 use native.Mathlib.Omega.{arith}
 use lib.ListN.{length, getD}
 use lib.Seq.{slice}
@@ -140,15 +140,3 @@ module _ (r : Kind) (m : ℕ) where
       few = by (ltb 0 (r .unit)) (unitsIn r (r .base + r .unit * m) ≤ 64)
           (λ t. omega (arith, units-sum (ltb-true 0 (r .unit) t)))
           (λ t. omega (arith, units-none r (r .base + r .unit * m) (omega (arith, ltb-false 0 (r .unit) t))))
-
--- a record without units
-module _ (r : Kind) where
-  base-plain : r .base ≡ r .base + r .unit * 0
-  base-plain = omega (arith, mul-zero (r .unit))
-
-  pub possible-base : possible r (r .base) ≡ true
-  possible-base = ap (possible r) base-plain ∙ possible-sum r 0 (omega arith)
-
-  pub units-base : unitsIn r (r .base) ≡ 0
-  unfolding unitsIn
-  units-base = ap (λ (n : ℕ). n / r .unit) (let z : r .base - r .base ≡ 0 = omega arith in z) ∙ zero-div (r .unit)

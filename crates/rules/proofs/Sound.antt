@@ -17,8 +17,7 @@ use Rattle.state.specs.declared.LockState.{LockState}
 use Rattle.state.specs.Locks.{isVehicle, blankActive, blankDefunct}
 use Rattle.state.specs.Model.{Model, modelOf, stateOf, Limits, full, fits, Tidy}
 use Rattle.state.proofs.Laws.{model-of-state}
-use Rattle.rules.specs.declared.Verdict.{Verdict}
-use Rattle.rules.specs.declared.Verdict.the-variants.{Sound, Broken}
+use Rattle.rules.specs.declared.Verdict.the-variants.{Sound}
 use Rattle.rules.specs.Rules.{zeroId, zeroSet, zeroLock, isBlankA, isBlankD, blanks, inOrder, neat, rule0, rule1, rule2, rule3, rule4, rule5, rule6, rule7, rule8, rule9, verdict, rules, brokenRule, isSound, sound}
 use Rattle.rules.proofs.Tidy.{rule0-tidy}
 
@@ -80,10 +79,6 @@ yes-verdict : (n : ℕ) (bs : List Bool) → all (λ b. b) bs ≡ true → verdi
 yes-verdict n [] t = refl
 yes-verdict n (true ∷ bs) t = yes-verdict (suc n) bs (and-r true (all (λ b. b) bs) t)
 yes-verdict n (false ∷ bs) t = absurd (false≢true (and-l false (all (λ b. b) bs) t))
-
-pub is-sound : (v : Verdict) → isSound v ≡ true → v ≡ Sound
-is-sound Sound t = refl
-is-sound (Broken n) t = absurd (false≢true t)
 
 all-of-rules : (s : LockState) → brokenRule s ≡ Sound → all (λ b. b) (rules s) ≡ true
 unfolding brokenRule

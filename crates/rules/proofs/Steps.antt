@@ -25,11 +25,6 @@ unfolding times
 times-add zero b f i = let e : zero + b ≡ b = omega arith in rw e
 times-add (suc a) b f i = let e : suc a + b ≡ suc (a + b) = omega arith in rw e (times-add a b f (f i))
 
-pub times-same : (m : ℕ) (f g : ℕ → ℕ) → ((i : ℕ) → f i ≡ g i) → (i : ℕ) → times m f i ≡ times m g i
-unfolding times
-times-same zero f g e i = refl
-times-same (suc m) f g e i = rw (e i) (times-same m f g e (g i))
-
 pub times-out : (m : ℕ) (l : List ℕ) (n i : ℕ) → n ≤ i → times m (jump l n) i ≡ i
 unfolding times
 times-out zero l n i h = refl

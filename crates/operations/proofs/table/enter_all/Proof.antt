@@ -16,7 +16,7 @@ use Rattle.state.specs.Locks.{dkey, blankActive, blankDefunct}
 use Rattle.operations.specs.Table.{toDefunct}
 use Rattle.operations.specs.Code.{placeOf, entriesOf, tableOf}
 use Rattle.operations.proofs.Leaving.{laid-wide}
-use Rattle.operations.proofs.Coming.{with-places, enteredAt, out-count, out-laid, enter-place, enter-is, one-more}
+use Rattle.operations.proofs.Coming.{with-places, enteredAt, out-count, out-laid, enter-is, one-more}
 use Rattle.operations.proofs.table.enter_all.Statement.{statement}
 use Rattle.operations.proofs.table.enter_all.Tie as tie
 use Rattle.operations.proofs.table.enter_all.Reads as reads

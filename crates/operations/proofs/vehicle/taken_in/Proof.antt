@@ -10,7 +10,7 @@ use Rattle.lists.proofs.Loops.{length-of-mapped}
 use Rattle.state.specs.Locks.{blankActive}
 use Rattle.operations.specs.Vehicle.{nest}
 use Rattle.operations.specs.Code.{altered}
-use Rattle.operations.proofs.Flags.{alter-long, change-yes, change-no}
+use Rattle.operations.proofs.Flags.{change-yes, change-no}
 use Rattle.operations.proofs.vehicle.taken_in.Statement.{statement}
 use Rattle.operations.proofs.vehicle.taken_in.Tie as tie
 use Rattle.operations.proofs.vehicle.taken_in.Reads as reads
