@@ -213,17 +213,25 @@ fn test(image: &[u8], generation: u64) {
     );
 }
 
-/// The first part is a run of names (length byte, bytes) that make a table, the second a name;
-/// `extra` may damage the table.
+/// The first part is a run of names (length byte, bytes) put into a table as they are, right or
+/// not, the second a name; `extra` may damage the table.
 fn names(first: &[u8], name: &[u8], extra: u8, choice: u8) {
     let folding = choice & 1 == 1;
     let mut table = vec![0; 16_642];
     let mut rest = first;
-    while let [length, more @ ..] = rest {
-        let length = usize::from(*length % 70).min(more.len());
-        let _ = oracle::names::number(&mut table, &more[..length], folding);
+    let mut count: u16 = 0;
+    while let [length, more @ ..] = rest
+        && count < 256
+    {
+        let length = usize::from(*length % 66).min(more.len());
+        let start = 2 + 65 * usize::from(count);
+        table[start] = length as u8;
+        let kept = length.min(64);
+        table[start + 1..start + 1 + kept].copy_from_slice(&more[..kept]);
         rest = &more[length..];
+        count += 1;
     }
+    table[..2].copy_from_slice(&count.to_le_bytes());
     if extra > 127 {
         let at = usize::from(extra) * 97 % table.len();
         table[at] ^= choice;
