@@ -4,9 +4,10 @@
 --     Room      NoRoom exactly where the same operation without limits is done and ends over a limit
 --     Links     the holder's walk ends, its count is the number of entries passed, at most 128 (127 for a stored record)
 --     Orders    entries go in any order to one result
---     Closed    a tree is closed under parents; overlap is symmetric
+--     Closed    a tree is closed under parents; overlap is symmetric; the empty set overlaps no set
 -- On the state, as the code's contracts say it:
 --     Again     no operation answers the closing check's Invariant; what the test accepts it accepts again (demand 3)
+--     Lowest    what a read finds has the lowest id of the locks that fit
 --     Dropping  the same of delete_defunct, which no feed asks for
 --     Agree     the steps on lists and on states are one
 --     Bench     the bench sheet's twelve starred rows
@@ -22,6 +23,7 @@ pub mod Every
 pub mod Answered
 pub mod Closing
 pub mod Again
+pub mod Lowest
 pub mod Dropping
 pub mod Agree
 pub mod Room
