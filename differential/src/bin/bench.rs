@@ -30,18 +30,18 @@ use oracle::{
     wire,
 };
 
-const SIZES: [(usize, usize); 4] = [(1, 0), (16, 0), (64, 0), (64, 128)];
+const SIZES: [(usize, usize); 5] = [(1, 0), (16, 0), (64, 0), (16, 128), (64, 128)];
 /// Calls timed together: enough to hide the clock, few enough to stay in the cache.
 const BATCH: usize = 4;
 const FEED_LIMIT: usize = 65_536;
 
 fn main() -> ExitCode {
     let words: Vec<String> = env::args().skip(1).collect();
-    if let [name, bytes] = &words[..]
+    if let [name, bytes, row] = &words[..]
         && name == "stack"
-        && let Ok(bytes) = bytes.parse()
+        && let (Ok(bytes), Ok(row)) = (bytes.parse(), row.parse())
     {
-        return on_a_stack_of(bytes);
+        return on_a_stack_of(bytes, row);
     }
     let Ok(cell) = words.first().map_or(Ok(300), |word| word.parse()) else {
         eprintln!("bench [MILLISECONDS A CELL]");
@@ -288,12 +288,12 @@ fn feeds(time: Duration) {
     println!();
 }
 
-/// Every operation on the largest states, in a thread with this much stack.
-fn on_a_stack_of(bytes: usize) -> ExitCode {
+/// One operation on the largest states and a small one, in a thread with this much stack.
+fn on_a_stack_of(bytes: usize, row: usize) -> ExitCode {
     let mut cells: Vec<Ours> = Vec::new();
     for (active, defunct) in [(63, 128), (64, 128), (1, 0)] {
         let operations = operations(active, defunct);
-        cells.extend(operations.iter().map(|o| Ours::new(active, defunct, o)));
+        cells.extend(operations.get(row).map(|o| Ours::new(active, defunct, o)));
     }
     let work = move || cells.iter_mut().map(Ours::call).sum::<u32>();
     let Ok(thread) = thread::Builder::new().stack_size(bytes).spawn(work) else {
@@ -305,34 +305,34 @@ fn on_a_stack_of(bytes: usize) -> ExitCode {
     }
 }
 
-/// The smallest stack that works, in steps of 4 KB, each tried in a process of its own.
+/// The smallest stack that works for each operation, in steps of 4 KB, each tried in a process of its own.
 fn stack() {
     let Ok(myself) = env::current_exe() else {
         return println!("stack: own path not known");
     };
-    let lives = |pages: usize| {
-        Command::new(&myself)
-            .args(["stack", &(pages * 4096).to_string()])
-            .stderr(std::process::Stdio::null())
-            .status()
-            .is_ok_and(|status| status.success())
-    };
-    // A thread has 16 KB at least, whatever is asked for.
-    let (mut dies, mut works) = (4, 4096);
-    if !lives(works) {
-        return println!("stack: 16 MB are not enough");
-    }
-    while works - dies > 1 {
-        let middle = (dies + works) / 2;
-        if lives(middle) {
-            works = middle;
-        } else {
-            dies = middle;
+    println!("stack, KB: the smallest thread in which a call works at 63/128, 64/128 and 1/0");
+    for (row, operation) in operations(1, 0).iter().enumerate() {
+        let lives = |pages: usize| {
+            Command::new(&myself)
+                .args(["stack", &(pages * 4096).to_string(), &row.to_string()])
+                .stderr(std::process::Stdio::null())
+                .status()
+                .is_ok_and(|status| status.success())
+        };
+        // A thread has 16 KB at least, whatever is asked for.
+        let (mut dies, mut works) = (4, 4096);
+        if !lives(works) {
+            println!("{:<22}more than 16 MB", operation.name());
+            continue;
         }
+        while works - dies > 1 {
+            let middle = (dies + works) / 2;
+            if lives(middle) {
+                works = middle;
+            } else {
+                dies = middle;
+            }
+        }
+        println!("{:<22}{}", operation.name(), works * 4);
     }
-    println!(
-        "stack: every operation at 63/128, 64/128 and 1/0 works in a thread of {} KB and dies with {} KB",
-        works * 4,
-        dies * 4
-    );
 }
