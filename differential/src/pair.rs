@@ -33,7 +33,8 @@ fn hex(bytes: &[u8]) -> String {
     bytes.iter().map(|byte| format!("{byte:02x}")).collect()
 }
 
-fn told(told: library::Told) -> Told {
+/// The library's answer in the judge's words.
+pub fn told(told: library::Told) -> Told {
     Told {
         number: told.number,
         count: told.count,
@@ -41,7 +42,8 @@ fn told(told: library::Told) -> Told {
     }
 }
 
-fn applied(applied: library::Applied) -> Applied {
+/// The same of a change.
+pub fn applied(applied: library::Applied) -> Applied {
     Applied {
         told: told(applied.told),
         part: applied.part,

@@ -8,7 +8,8 @@
 use std::{ffi::c_void, ptr};
 
 use cablegorse::library;
-use oracle::boundary::{self, Applied, Told};
+use differential::pair::{applied, told};
+use oracle::boundary;
 
 unsafe extern "C" {
     fn mmap(
@@ -63,26 +64,6 @@ impl Fence {
 
 static FENCES: std::sync::LazyLock<[Fence; 5]> =
     std::sync::LazyLock::new(|| std::array::from_fn(|_| Fence::new()));
-
-fn told(told: library::Told) -> Told {
-    Told {
-        number: told.number,
-        count: told.count,
-        values: told.values,
-    }
-}
-
-fn applied(applied: library::Applied) -> Applied {
-    Applied {
-        told: told(applied.told),
-        part: applied.part,
-        sequence: applied.sequence,
-        place: applied.place,
-        written: applied.written,
-        gone: applied.gone,
-        lapsed: applied.lapsed,
-    }
-}
 
 /// How long an output buffer is: mostly enough.
 fn length(choice: u8, enough: usize) -> usize {
