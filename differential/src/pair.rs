@@ -46,12 +46,12 @@ pub fn told(told: library::Told) -> Told {
 pub fn applied(applied: library::Applied) -> Applied {
     Applied {
         told: told(applied.told),
-        part: applied.part,
+        part: applied.part.number(),
         sequence: applied.sequence,
-        place: applied.place,
-        written: applied.written,
-        gone: applied.gone,
-        lapsed: applied.lapsed,
+        place: applied.place as u64,
+        written: applied.written as u64,
+        gone: applied.gone as u64,
+        lapsed: applied.lapsed as u64,
     }
 }
 

@@ -2,7 +2,7 @@
 //! What the differential run does. It goes by blocks: a block has its own seed, so that any
 //! number of threads gives the same run and a block that failed can be run alone.
 
-use cablegorse::Spare;
+use cablegorse::Replica;
 use oracle::{
     boundary::{self, Told},
     generate::{self, Case, Profile, Rng},
@@ -274,7 +274,7 @@ impl Run {
         }
         let feed = self.through_a_link(case, expected);
         let image = wire::write_image(&case.state, expected).expect("a sound state");
-        let mut spare = Spare::from_image(&image).expect("a sound state");
+        let mut spare = Replica::from_image(&image).expect("a sound state");
         let (mut state, mut number, mut at) = (case.state.clone(), expected, 0);
         loop {
             let image = spare.image().to_vec();
@@ -638,7 +638,7 @@ fn answer(told: &Told, operation: &Operation) -> String {
 }
 
 /// The wrapper says what the boundary said, and keeps the image that was written.
-fn check_step(step: &cablegorse::Step, full: &boundary::Full, spare: &Spare, before: &[u8]) {
+fn check_step(step: &cablegorse::Step, full: &boundary::Full, spare: &Replica, before: &[u8]) {
     let applied = &full.applied;
     assert_eq!(step.number(), applied.told.number);
     assert_eq!(step.applied, applied.part == 2);

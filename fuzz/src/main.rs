@@ -4,6 +4,7 @@
 //! that end where a page without access begins, so that a read or write past them is a crash.
 //! Coverage comes from the judge, since the proved archive carries none.
 #![no_main]
+#![allow(unsafe_code)]
 
 use std::{ffi::c_void, ptr};
 
@@ -75,8 +76,12 @@ fn length(choice: u8, enough: usize) -> usize {
 }
 
 /// Input: function, choice of lengths, a place or question, image length (2), image, the rest.
+///
+/// # Safety
+///
+/// As libFuzzer calls it: `size` bytes at `data`.
 #[unsafe(no_mangle)]
-pub extern "C" fn LLVMFuzzerTestOneInput(data: *const u8, size: usize) -> i32 {
+pub unsafe extern "C" fn LLVMFuzzerTestOneInput(data: *const u8, size: usize) -> i32 {
     if size == 0 {
         return 0;
     }

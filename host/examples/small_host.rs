@@ -19,14 +19,14 @@ use std::{
 };
 
 use cablegorse::{
-    Active, Coverage, Done, Lock, LockId, NameTable, Operation, Refusal, Scope, Spare, Step,
+    Active, Coverage, Done, Lock, LockId, NameTable, Operation, Refusal, Replica, Scope, Step,
 };
 
 type Outcome<T> = Result<T, Box<dyn Error>>;
 
 /// What the host keeps: one image with its expected number (in `locks`), and its name tables.
 struct Host {
-    locks: Spare,
+    locks: Replica,
     ecus: NameTable,
     testers: NameTable,
 }
@@ -72,7 +72,7 @@ fn new_id(host: &Host) -> LockId {
 impl Host {
     fn new() -> Self {
         Self {
-            locks: Spare::empty(),
+            locks: Replica::empty(),
             ecus: NameTable::folding(),
             testers: NameTable::exact(),
         }
@@ -87,7 +87,7 @@ impl Host {
                 Err(_) => return Ok(()),
             };
             match kind {
-                IMAGE => self.locks = Spare::from_image(&bytes)?,
+                IMAGE => self.locks = Replica::from_image(&bytes)?,
                 ECUS => self.ecus = NameTable::from_bytes(&bytes, true)?,
                 TESTERS => self.testers = NameTable::from_bytes(&bytes, false)?,
                 RECORD => {

@@ -1,10 +1,11 @@
 // SPDX-License-Identifier: Apache-2.0
 //! The static library's functions on byte slices: the one module with `unsafe`.
 //!
-//! Each function here is safe and total: any bytes and any numbers get an answer. A refusal
-//! writes nothing into any buffer; a success keeps the bytes past its output. [`crate::Spare`]
-//! and [`crate::NameTable`] are built on these; a host that keeps its own buffers may call them
-//! as they are.
+//! Each function here is safe and total: any bytes and any numbers get an answer. What is
+//! written is said by [`Applied::part`], not by the number beside it: a record whose operation
+//! was refused is applied all the same ([`Part::Applied`]), and its next image must be kept. A
+//! success keeps the bytes past its output. [`crate::Replica`] and [`crate::NameTable`] are built
+//! on these; a host that keeps its own buffers may call them as they are.
 #![allow(unsafe_code)]
 
 /// Bytes of the largest image: HEAD, 64 ACTIVE and 128 DEFUNCT records.
@@ -13,6 +14,74 @@ pub const IMAGE_LIMIT: usize = 20 + 64 * 91 + 128 * 104;
 pub const REMOVED_LIMIT: usize = 64 * 91;
 /// Bytes of the most expired ids, 128 of 16 bytes.
 pub const EXPIRED_LIMIT: usize = 128 * 16;
+
+/// The reads by their numbers, for [`read`]. What each takes and answers: include/cablegorse.h.
+pub mod question {
+    /// How many changes went through.
+    pub const REVISION: u32 = 1;
+    /// The lock held on a scope.
+    pub const ACTIVE_FOR_SCOPE: u32 = 2;
+    /// The held lock with an id.
+    pub const ACTIVE_BY_ID: u32 = 3;
+    /// The defunct lock with an id.
+    pub const DEFUNCT_BY_ID: u32 = 4;
+    /// The held lock at a place.
+    pub const ACTIVE_AT: u32 = 5;
+    /// The defunct lock at a place.
+    pub const DEFUNCT_AT: u32 = 6;
+    /// The ECU locks that a functional group's lock takes along.
+    pub const COVERED_NARROW_LOCKS: u32 = 7;
+    /// A functional group's lock of a subject that covers an ECU.
+    pub const COVERING_FUNCTIONAL_GROUP: u32 = 8;
+    /// The tester-present signal that a lock calls for.
+    pub const TESTER_PRESENT_FOR: u32 = 9;
+    /// Whether a held lock still calls for a signal.
+    pub const TESTER_PRESENT_NEEDED: u32 = 10;
+    /// A defunct lock that a new lock would touch and not supersede.
+    pub const UNCOVERED_DEFUNCT: u32 = 11;
+    /// Who holds what a defunct lock was replaced by.
+    pub const CURRENT_HOLDER: u32 = 12;
+    /// The subject of the vehicle lock.
+    pub const VEHICLE_LOCK_OWNER_SUB: u32 = 13;
+    /// Whether a lock that isn't a vehicle lock is held.
+    pub const HAS_NON_VEHICLE_LOCKS: u32 = 14;
+}
+
+/// How far a change came, and so what was written.
+#[derive(Clone, Copy, Debug, PartialEq, Eq, Hash)]
+#[non_exhaustive]
+pub enum Part {
+    /// 0: the image was refused (17 to 20, 12). Nothing was written.
+    ImageRefused = 0,
+    /// 1: the record was refused (17 to 19) or is out of turn (15, 16), or an argument can't be
+    /// (19). Nothing was written.
+    RecordRefused = 1,
+    /// 2: applied. The number is the operation's own answer, a refusal perhaps; the next image was
+    /// written and is the state from now on.
+    Applied = 2,
+    /// 3: an output is too short (21). Nothing was written.
+    ShortOutput = 3,
+}
+
+impl Part {
+    /// The boundary's number.
+    #[must_use]
+    pub const fn number(self) -> u32 {
+        self as u32
+    }
+
+    /// The part with this number.
+    #[must_use]
+    pub const fn from_number(number: u32) -> Option<Self> {
+        Some(match number {
+            0 => Self::ImageRefused,
+            1 => Self::RecordRefused,
+            2 => Self::Applied,
+            3 => Self::ShortOutput,
+            _ => return None,
+        })
+    }
+}
 
 /// An answer of one number and up to five values.
 #[repr(C)]
@@ -27,42 +96,74 @@ pub struct Told {
 }
 
 /// What applying a record, or dropping a defunct lock, answers.
-#[repr(C)]
-#[derive(Clone, Copy, Debug, PartialEq, Eq, Default)]
+#[derive(Clone, Copy, Debug, PartialEq, Eq)]
 pub struct Applied {
     /// Document 01's number and its values.
     pub told: Told,
-    /// 0: the image was refused. 1: the record was refused or out of turn. 2: applied, and the
-    /// number is the operation's own answer. 3: an output is too short.
-    pub part: u32,
+    /// How far it came: what was written, and whose answer the number is.
+    pub part: Part,
     /// The record's sequence, 0 where none was read.
     pub sequence: u32,
     /// Where the next record starts.
-    pub place: u64,
-    /// Bytes of the next image.
-    pub written: u64,
+    pub place: usize,
+    /// Bytes of the next image; 0 where none was written.
+    pub written: usize,
     /// ACTIVE records of 91 bytes among the removed.
-    pub gone: u64,
+    pub gone: usize,
     /// Ids of 16 bytes among the expired.
-    pub lapsed: u64,
+    pub lapsed: usize,
+}
+
+impl Applied {
+    /// # Panics
+    ///
+    /// Where the part is none of [`Part`]'s: then archive and crate aren't of one version.
+    fn from_raw(raw: raw::Applied) -> Self {
+        let Some(part) = Part::from_number(raw.part) else {
+            panic!(
+                "libcablegorse told part {}: archive and crate aren't of one version",
+                raw.part
+            );
+        };
+        Self {
+            told: raw.told,
+            part,
+            sequence: raw.sequence,
+            place: raw.place as usize,
+            written: raw.written as usize,
+            gone: raw.gone as usize,
+            lapsed: raw.lapsed as usize,
+        }
+    }
 }
 
 // What crosses the boundary is laid out as C does: two u32, five u64, and so on. In C an array
 // in a struct and a struct at the front lie where the single fields would.
 const _: () = {
     assert!(size_of::<Told>() == 48 && align_of::<Told>() == 8);
-    assert!(size_of::<Applied>() == 88 && align_of::<Applied>() == 8);
+    assert!(size_of::<raw::Applied>() == 88 && align_of::<raw::Applied>() == 8);
     // Lengths are u64 in the answers; a slice's length fits.
     assert!(size_of::<usize>() == 8);
 };
 
-/// The foreign declarations, and nothing else. Nothing checks them against the library's source
-/// but this crate's tests and the differential run.
+/// The foreign declarations, and nothing else. bin/check-header holds them to the library's
+/// source and to include/cablegorse.h.
 mod raw {
-    use super::{Applied, Told};
+    use super::Told;
 
-    // SAFETY: the archive exports these names with these types (docs/INTEGRATION.md, "The
-    // boundary"); a byte slice passes as pointer and length.
+    #[repr(C)]
+    pub struct Applied {
+        pub told: Told,
+        pub part: u32,
+        pub sequence: u32,
+        pub place: u64,
+        pub written: u64,
+        pub gone: u64,
+        pub lapsed: u64,
+    }
+
+    // SAFETY: the archive has these names with these types (include/cablegorse.h, bin/check-header);
+    // a byte slice passes as pointer and length.
     unsafe extern "C" {
         pub fn cablegorse_apply(
             image: *const u8,
@@ -139,7 +240,7 @@ pub fn apply(
     // SAFETY: each pair is a live slice's pointer and length. The borrows keep the three
     // buffers apart from each other and from what is read, which the library's proof assumes.
     // The library reads and writes within the lengths, keeps no pointer and never unwinds.
-    unsafe {
+    let raw = unsafe {
         raw::cablegorse_apply(
             image.as_ptr(),
             image.len(),
@@ -153,7 +254,8 @@ pub fn apply(
             expired.as_mut_ptr(),
             expired.len(),
         )
-    }
+    };
+    Applied::from_raw(raw)
 }
 
 /// 001's `delete_defunct` on an image; the id as two big-endian halves, the scope as kind and
@@ -167,7 +269,7 @@ pub fn delete_defunct(
     next: &mut [u8],
 ) -> Applied {
     // SAFETY: as in `apply`.
-    unsafe {
+    let raw = unsafe {
         raw::cablegorse_delete_defunct(
             image.as_ptr(),
             image.len(),
@@ -179,7 +281,8 @@ pub fn delete_defunct(
             next.as_mut_ptr(),
             next.len(),
         )
-    }
+    };
+    Applied::from_raw(raw)
 }
 
 /// 001's `prepare_runtime_update`: 0 and the generation from now on, 24, 25, or the image's
@@ -198,7 +301,7 @@ pub fn test(image: &[u8]) -> Told {
     unsafe { raw::cablegorse_test(image.as_ptr(), image.len()) }
 }
 
-/// One of the reads, by its number in docs/INTEGRATION.md.
+/// One of the reads, by its number in [`question`].
 #[must_use]
 pub fn read(image: &[u8], question: u32, x: u64, y: u64, record: &[u8], out: &mut [u8]) -> Told {
     // SAFETY: as in `apply`.
@@ -217,8 +320,9 @@ pub fn read(image: &[u8], question: u32, x: u64, y: u64, record: &[u8], out: &mu
     }
 }
 
-/// A name's number in a table of 16,642 bytes; a new name is entered. `folding`: as ECU and
-/// group names are kept, in small letters.
+/// A name's number in a table of 16,642 bytes; a new name is entered, and the count in the table's
+/// first two bytes rises by 1. `folding`: whether the table keeps names in small letters, as ECU
+/// and group tables do. It belongs to the table: [`crate::NameTable`] says what a wrong one does.
 #[must_use]
 pub fn name_number(table: &mut [u8], name: &[u8], folding: bool) -> Told {
     // SAFETY: as in `apply`.

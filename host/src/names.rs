@@ -8,7 +8,24 @@ use crate::{library, refusal::Refusal};
 /// Bytes of a table: a count (u16), then 256 entries of one length byte and 64 bytes.
 pub const TABLE_BYTES: usize = 16_642;
 
+/// A name's number, and whether the table has learned the name just now.
+#[derive(Clone, Copy, Debug, PartialEq, Eq, Hash)]
+pub struct Named {
+    /// The number, 0 to 255.
+    pub number: u16,
+    /// Whether the name is new: then the table changed, and the other end needs it before the
+    /// first record that uses the number.
+    pub new: bool,
+}
+
 /// A table of up to 256 names of 0 to 64 bytes. A name keeps its number.
+///
+/// Whether a table folds names to small letters belongs to the table for good: ECU and group
+/// tables fold, subject tables don't. An ECU table that is once used without folding takes
+/// `Engine` and `engine` for two units, and two testers may lock one; with folding again it is 27
+/// from then on. A subject table that is used with folding is 27 as soon as a name in it has a
+/// capital letter, and takes `Ann` for `ann` before. Here it is said once, where the table is
+/// made or read.
 #[derive(Clone, PartialEq, Eq)]
 pub struct NameTable {
     bytes: Vec<u8>,
@@ -35,7 +52,7 @@ impl NameTable {
         }
     }
 
-    /// The table of these bytes, or 27.
+    /// The table of these bytes, which folds names or doesn't; 27 where they aren't such a table.
     pub fn from_bytes(bytes: &[u8], folding: bool) -> Result<Self, Refusal> {
         let told = library::name_at(bytes, 0, folding, &mut [0; 64]);
         match Refusal::from_told(&told) {
@@ -65,15 +82,24 @@ impl NameTable {
         self.len() == 0
     }
 
-    /// The name's number; a new name gets the next one. 22 for a name of more than 64 bytes, 23
-    /// for a new name in a full table.
-    pub fn number(&mut self, name: &[u8]) -> Result<u16, Refusal> {
+    /// The name's number; a new name gets the next one, and is told apart. 22 for a name of more
+    /// than 64 bytes, 23 for a new name in a full table.
+    pub fn learn(&mut self, name: &[u8]) -> Result<Named, Refusal> {
+        let before = self.len();
         let told = library::name_number(&mut self.bytes, name, self.folding);
         match Refusal::from_told(&told) {
             Some(refusal) => Err(refusal),
-            // At most 255.
-            None => Ok(told.values[0] as u16),
+            None => Ok(Named {
+                // At most 255.
+                number: told.values[0] as u16,
+                new: self.len() > before,
+            }),
         }
+    }
+
+    /// As [`NameTable::learn`], the number alone.
+    pub fn number(&mut self, name: &[u8]) -> Result<u16, Refusal> {
+        self.learn(name).map(|named| named.number)
     }
 
     /// The name with this number.

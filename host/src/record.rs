@@ -23,6 +23,7 @@ const DEFUNCT: u16 = 3;
 
 /// An operation that goes through the feed.
 #[derive(Clone, Debug, PartialEq, Eq)]
+#[non_exhaustive]
 pub enum Operation {
     /// Takes a lock.
     InsertActive {

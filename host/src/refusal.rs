@@ -10,13 +10,17 @@ use crate::{
 
 /// Why a change would leave an unsound state (11).
 #[derive(Clone, Copy, Debug, PartialEq, Eq, Hash)]
+#[non_exhaustive]
 pub enum Reason {
     /// 0: the closing check failed. Proved never to be given.
     Closing,
     /// 1: the lock to insert isn't a vehicle lock without a parent.
     NoRootVehicle,
     /// 2: a listed child is a vehicle lock or has a parent already.
-    BadChild(LockId),
+    BadChild {
+        /// The child.
+        child: LockId,
+    },
     /// 3: child and parent have different subjects.
     Owner {
         /// The child.
@@ -40,15 +44,41 @@ impl Reason {
         match self {
             Self::Closing => 0,
             Self::NoRootVehicle => 1,
-            Self::BadChild(_) => 2,
+            Self::BadChild { .. } => 2,
             Self::Owner { .. } => 3,
             Self::Coverage { .. } => 4,
         }
     }
 }
 
+impl fmt::Display for Reason {
+    fn fmt(&self, f: &mut fmt::Formatter<'_>) -> fmt::Result {
+        write!(f, "reason {}, ", self.number())?;
+        match self {
+            Self::Closing => f.write_str("the state that would result is unsound"),
+            Self::NoRootVehicle => f.write_str("the lock isn't a vehicle lock without a parent"),
+            Self::BadChild { child } => {
+                write!(f, "child {child} is a vehicle lock or has a parent already")
+            }
+            Self::Owner { child, parent } => {
+                write!(
+                    f,
+                    "child {child} and parent {parent} have different subjects"
+                )
+            }
+            Self::Coverage { child, parent } => {
+                write!(
+                    f,
+                    "parent {parent} doesn't cover all that child {child} covers"
+                )
+            }
+        }
+    }
+}
+
 /// Response class of a refusal, as the adapter answers its client.
 #[derive(Clone, Copy, Debug, PartialEq, Eq, Hash)]
+#[non_exhaustive]
 pub enum ResponseClass {
     /// 400
     BadRequest,
@@ -60,23 +90,42 @@ pub enum ResponseClass {
     Forbidden,
 }
 
-/// A refusal. Nothing changed, except where [`Refusal::RevisionOverflow`] says so.
+/// A refusal: document 01's number with its data. More will come, so a `match` needs a last arm.
+///
+/// No lock changed, except where [`Refusal::RevisionOverflow`] says so. Whether the record counts
+/// as applied is another matter, and [`crate::Step::applied`] says it.
 #[derive(Clone, Copy, Debug, PartialEq, Eq, Hash)]
+#[non_exhaustive]
 pub enum Refusal {
     /// 1: the id is in use.
-    DuplicateId(LockId),
+    DuplicateId {
+        /// The id.
+        id: LockId,
+    },
     /// 2: the scope has a lock.
     DuplicateScope,
     /// 3: no such active lock.
-    ActiveLockNotFound(LockId),
+    ActiveLockNotFound {
+        /// The id that was given.
+        id: LockId,
+    },
     /// 4: the parent isn't active.
-    ParentNotFound(LockId),
+    ParentNotFound {
+        /// The parent that was named.
+        parent: LockId,
+    },
     /// 5: the parent isn't a vehicle lock.
-    ParentNotVehicle(LockId),
+    ParentNotVehicle {
+        /// The parent that was named.
+        parent: LockId,
+    },
     /// 6: the scope is held by a lock that the replacement doesn't remove.
     ReplacementScopeConflict,
-    /// 7: another subject's lock, this one, covers some of the same ECUs.
-    CoverageConflict(LockId),
+    /// 7: another subject's lock covers some of the same ECUs.
+    CoverageConflict {
+        /// The lock that is in the way.
+        id: LockId,
+    },
     /// 8: the last revision was reached. Acknowledgement, `expire_defunct` and `delete_defunct`
     /// have taken their entries out all the same.
     RevisionOverflow,
@@ -85,10 +134,13 @@ pub enum Refusal {
     /// 10: a renewal that doesn't extend.
     RenewalNotExtension,
     /// 11: the result would be unsound.
-    Invariant(Reason),
-    /// 12: the state handed in breaks this rule, the lowest.
+    Invariant {
+        /// In which way.
+        reason: Reason,
+    },
+    /// 12: the state handed in breaks a rule.
     UnsoundState {
-        /// 0 to 9.
+        /// The lowest broken one, 0 to 9.
         rule: u8,
     },
     /// 13: 64 active or 128 defunct locks are there.
@@ -125,10 +177,10 @@ pub enum Refusal {
         /// Where the record, or the first extra byte, starts.
         offset: usize,
     },
-    /// 21: a buffer is too short; for [`library::apply`] the bytes needed for the next image,
-    /// the removed locks and the expired ids, else one number.
+    /// 21: a buffer is too short.
     ShortOutput {
-        /// Bytes needed.
+        /// Bytes needed: for [`library::apply`] of the next image, the removed locks and the
+        /// expired ids; else one number and zeros.
         needed: [usize; 3],
     },
     /// 22: a name of more than 64 bytes.
@@ -143,8 +195,11 @@ pub enum Refusal {
     Forbidden,
     /// 27: these bytes aren't a name table.
     BadTable,
-    /// A number that document 01 doesn't have: library and crate are of different versions.
-    Unknown(u32),
+    /// A number that this crate doesn't know: the library is of a later version.
+    Unknown {
+        /// The number.
+        number: u32,
+    },
 }
 
 impl Refusal {
@@ -156,25 +211,26 @@ impl Refusal {
         let (offset, expected) = (v0 as usize, v0 as u32);
         Some(match told.number {
             0 => return None,
-            1 => Self::DuplicateId(id),
+            1 => Self::DuplicateId { id },
             2 => Self::DuplicateScope,
-            3 => Self::ActiveLockNotFound(id),
-            4 => Self::ParentNotFound(id),
-            5 => Self::ParentNotVehicle(id),
+            3 => Self::ActiveLockNotFound { id },
+            4 => Self::ParentNotFound { parent: id },
+            5 => Self::ParentNotVehicle { parent: id },
             6 => Self::ReplacementScopeConflict,
-            7 => Self::CoverageConflict(id),
+            7 => Self::CoverageConflict { id },
             8 => Self::RevisionOverflow,
             9 => Self::LockExpired,
             10 => Self::RenewalNotExtension,
             11 => {
                 let (child, parent) = (LockId::from_halves(v1, v2), LockId::from_halves(v3, v4));
-                Self::Invariant(match v0 {
+                let reason = match v0 {
                     1 => Reason::NoRootVehicle,
-                    2 => Reason::BadChild(child),
+                    2 => Reason::BadChild { child },
                     3 => Reason::Owner { child, parent },
                     4 => Reason::Coverage { child, parent },
                     _ => Reason::Closing,
-                })
+                };
+                Self::Invariant { reason }
             }
             12 => Self::UnsoundState { rule: v0 as u8 },
             13 => Self::NoRoom,
@@ -194,77 +250,53 @@ impl Refusal {
             25 => Self::FunctionalGroupLocksHeld,
             26 => Self::Forbidden,
             27 => Self::BadTable,
-            other => Self::Unknown(other),
+            number => Self::Unknown { number },
         })
     }
 
     /// Document 01's number.
     #[must_use]
     pub fn number(&self) -> u32 {
-        match self {
-            Self::DuplicateId(_) => 1,
-            Self::DuplicateScope => 2,
-            Self::ActiveLockNotFound(_) => 3,
-            Self::ParentNotFound(_) => 4,
-            Self::ParentNotVehicle(_) => 5,
-            Self::ReplacementScopeConflict => 6,
-            Self::CoverageConflict(_) => 7,
-            Self::RevisionOverflow => 8,
-            Self::LockExpired => 9,
-            Self::RenewalNotExtension => 10,
-            Self::Invariant(_) => 11,
-            Self::UnsoundState { .. } => 12,
-            Self::NoRoom => 13,
-            Self::BadList => 14,
-            Self::Repeat { .. } => 15,
-            Self::Ahead { .. } => 16,
-            Self::Torn { .. } => 17,
-            Self::BadKind { .. } => 18,
-            Self::BadField { .. } => 19,
-            Self::BadOrder { .. } => 20,
-            Self::ShortOutput { .. } => 21,
-            Self::NameTooLong => 22,
-            Self::NamesFull => 23,
-            Self::EcuLocksHeld => 24,
-            Self::FunctionalGroupLocksHeld => 25,
-            Self::Forbidden => 26,
-            Self::BadTable => 27,
-            Self::Unknown(number) => *number,
-        }
+        self.row().0
     }
 
     /// Document 01's name.
     #[must_use]
     pub fn name(&self) -> &'static str {
+        self.row().1
+    }
+
+    /// The row of document 01's table.
+    fn row(&self) -> (u32, &'static str) {
         match self {
-            Self::DuplicateId(_) => "DuplicateId",
-            Self::DuplicateScope => "DuplicateScope",
-            Self::ActiveLockNotFound(_) => "ActiveLockNotFound",
-            Self::ParentNotFound(_) => "ParentNotFound",
-            Self::ParentNotVehicle(_) => "ParentNotVehicle",
-            Self::ReplacementScopeConflict => "ReplacementScopeConflict",
-            Self::CoverageConflict(_) => "CoverageConflict",
-            Self::RevisionOverflow => "RevisionOverflow",
-            Self::LockExpired => "LockExpired",
-            Self::RenewalNotExtension => "RenewalNotExtension",
-            Self::Invariant(_) => "Invariant",
-            Self::UnsoundState { .. } => "UnsoundState",
-            Self::NoRoom => "NoRoom",
-            Self::BadList => "BadList",
-            Self::Repeat { .. } => "Repeat",
-            Self::Ahead { .. } => "Ahead",
-            Self::Torn { .. } => "Torn",
-            Self::BadKind { .. } => "BadKind",
-            Self::BadField { .. } => "BadField",
-            Self::BadOrder { .. } => "BadOrder",
-            Self::ShortOutput { .. } => "ShortOutput",
-            Self::NameTooLong => "NameTooLong",
-            Self::NamesFull => "NamesFull",
-            Self::EcuLocksHeld => "EcuLocksHeld",
-            Self::FunctionalGroupLocksHeld => "FunctionalGroupLocksHeld",
-            Self::Forbidden => "Forbidden",
-            Self::BadTable => "BadTable",
-            Self::Unknown(_) => "Unknown",
+            Self::DuplicateId { .. } => (1, "DuplicateId"),
+            Self::DuplicateScope => (2, "DuplicateScope"),
+            Self::ActiveLockNotFound { .. } => (3, "ActiveLockNotFound"),
+            Self::ParentNotFound { .. } => (4, "ParentNotFound"),
+            Self::ParentNotVehicle { .. } => (5, "ParentNotVehicle"),
+            Self::ReplacementScopeConflict => (6, "ReplacementScopeConflict"),
+            Self::CoverageConflict { .. } => (7, "CoverageConflict"),
+            Self::RevisionOverflow => (8, "RevisionOverflow"),
+            Self::LockExpired => (9, "LockExpired"),
+            Self::RenewalNotExtension => (10, "RenewalNotExtension"),
+            Self::Invariant { .. } => (11, "Invariant"),
+            Self::UnsoundState { .. } => (12, "UnsoundState"),
+            Self::NoRoom => (13, "NoRoom"),
+            Self::BadList => (14, "BadList"),
+            Self::Repeat { .. } => (15, "Repeat"),
+            Self::Ahead { .. } => (16, "Ahead"),
+            Self::Torn { .. } => (17, "Torn"),
+            Self::BadKind { .. } => (18, "BadKind"),
+            Self::BadField { .. } => (19, "BadField"),
+            Self::BadOrder { .. } => (20, "BadOrder"),
+            Self::ShortOutput { .. } => (21, "ShortOutput"),
+            Self::NameTooLong => (22, "NameTooLong"),
+            Self::NamesFull => (23, "NamesFull"),
+            Self::EcuLocksHeld => (24, "EcuLocksHeld"),
+            Self::FunctionalGroupLocksHeld => (25, "FunctionalGroupLocksHeld"),
+            Self::Forbidden => (26, "Forbidden"),
+            Self::BadTable => (27, "BadTable"),
+            Self::Unknown { number } => (*number, "Unknown"),
         }
     }
 
@@ -287,33 +319,77 @@ pub fn response_class(number: u32) -> Option<ResponseClass> {
     }
 }
 
+/// Document 01's rules of a sound state, said of a state that breaks one.
+const BROKEN: [&str; 10] = [
+    "counts, order or blanks are wrong, or a part that doesn't apply isn't zero",
+    "an id is both active and defunct",
+    "a scope has two active locks",
+    "a parent isn't active",
+    "a parent isn't a vehicle lock",
+    "a parent has another subject than its child",
+    "a parent doesn't cover all that its child covers",
+    "a vehicle lock has a parent",
+    "two subjects' locks overlap",
+    "replacements lead round in a circle",
+];
+
 impl fmt::Display for Refusal {
+    /// The number, the name, and what is the matter, for a person:
+    /// `7 CoverageConflict: lock 00000000-0000-0000-0000-000000000001 is in the way`.
     fn fmt(&self, f: &mut fmt::Formatter<'_>) -> fmt::Result {
-        write!(f, "{} {}", self.number(), self.name())?;
-        match self {
-            Self::DuplicateId(id)
-            | Self::ActiveLockNotFound(id)
-            | Self::ParentNotFound(id)
-            | Self::ParentNotVehicle(id)
-            | Self::CoverageConflict(id) => write!(f, " {id}"),
-            Self::Invariant(reason) => match reason {
-                Reason::Closing | Reason::NoRootVehicle => write!(f, " {}", reason.number()),
-                Reason::BadChild(child) => write!(f, " 2 {child}"),
-                Reason::Owner { child, parent } | Reason::Coverage { child, parent } => {
-                    write!(f, " {} {child} {parent}", reason.number())
-                }
-            },
-            Self::UnsoundState { rule } => write!(f, " rule {rule}"),
-            Self::Repeat { expected } | Self::Ahead { expected } => {
-                write!(f, " expected {expected}")
+        write!(f, "{} {}: ", self.number(), self.name())?;
+        let text = match self {
+            Self::DuplicateId { id } => return write!(f, "the id {id} is in use"),
+            Self::DuplicateScope => "the scope is locked already",
+            Self::ActiveLockNotFound { id } => return write!(f, "no lock {id} is held"),
+            Self::ParentNotFound { parent } => return write!(f, "no parent {parent} is held"),
+            Self::ParentNotVehicle { parent } => {
+                return write!(f, "the parent {parent} isn't a vehicle lock");
             }
-            Self::Torn { offset }
-            | Self::BadKind { offset }
-            | Self::BadField { offset }
-            | Self::BadOrder { offset } => write!(f, " at {offset}"),
-            Self::ShortOutput { needed } => write!(f, " needed {needed:?}"),
-            _ => Ok(()),
-        }
+            Self::ReplacementScopeConflict => "a lock that isn't among those broken has the scope",
+            Self::CoverageConflict { id } => return write!(f, "lock {id} is in the way"),
+            Self::RevisionOverflow => "the last revision is reached",
+            Self::LockExpired => "the lock has expired",
+            Self::RenewalNotExtension => "the new expiry isn't later than the old one",
+            Self::Invariant { reason } => return reason.fmt(f),
+            Self::UnsoundState { rule } => {
+                let broken = BROKEN.get(usize::from(*rule)).unwrap_or(&"no such rule");
+                return write!(f, "rule {rule}, {broken}");
+            }
+            Self::NoRoom => "64 active or 128 defunct locks are there",
+            Self::BadList => "half an id at the end of a list",
+            Self::Repeat { expected } => {
+                return write!(f, "applied before; record {expected} is due");
+            }
+            Self::Ahead { expected } => return write!(f, "record {expected} is missing"),
+            Self::Torn { offset } => {
+                return write!(f, "the record at byte {offset} is cut short");
+            }
+            Self::BadKind { offset } => {
+                return write!(f, "no record of a kind that is due stands at byte {offset}");
+            }
+            Self::BadField { offset } => {
+                return write!(
+                    f,
+                    "a length, count or field of the record at byte {offset} can't be"
+                );
+            }
+            Self::BadOrder { offset } => {
+                return write!(
+                    f,
+                    "ids don't ascend, or there are bytes too many, at byte {offset}"
+                );
+            }
+            Self::ShortOutput { needed } => return write!(f, "{needed:?} bytes are needed"),
+            Self::NameTooLong => "a name has at most 64 bytes",
+            Self::NamesFull => "256 names are there",
+            Self::EcuLocksHeld => "an ECU's lock is held",
+            Self::FunctionalGroupLocksHeld => "a functional group's lock is held",
+            Self::Forbidden => "the lock is another subject's",
+            Self::BadTable => "these bytes aren't a name table of this kind",
+            Self::Unknown { .. } => "a later version of the library has this number",
+        };
+        f.write_str(text)
     }
 }
 

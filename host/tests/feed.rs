@@ -3,8 +3,10 @@
 //! their data, and what a spare keeps.
 
 use cablegorse::{
-    Active, Coverage, Done, Lock, LockId, Operation, Reason, Refusal, ResponseClass, Scope, Spare,
-    library, response_class,
+    Active, Coverage, Done, Lock, LockId, Operation, Reason, Refusal, Replica, ResponseClass,
+    Scope,
+    library::{self, Part, Told},
+    response_class,
 };
 
 fn id(number: u128) -> LockId {
@@ -33,17 +35,17 @@ fn vehicle(number: u128, subject: u16) -> Active {
     vehicle
 }
 
-fn perform(spare: &mut Spare, operation: Operation) -> cablegorse::Step {
+fn perform(spare: &mut Replica, operation: Operation) -> cablegorse::Step {
     spare.perform(&operation).expect("few ids").1
 }
 
-fn insert(spare: &mut Spare, lock: Active) -> Result<Done, Refusal> {
+fn insert(spare: &mut Replica, lock: Active) -> Result<Done, Refusal> {
     perform(spare, Operation::InsertActive { lock }).answer
 }
 
 /// Document 01's bench sheet begins so.
-fn a() -> Spare {
-    let mut spare = Spare::empty();
+fn a() -> Replica {
+    let mut spare = Replica::empty();
     assert_eq!(
         insert(&mut spare, lock(1, Scope::Ecu(5), &[5], 1)),
         Ok(Done::Done)
@@ -60,7 +62,7 @@ fn the_sample_feed() {
     feed.extend([0; 8]);
     feed.extend([0x0e, 0, 0x17, 0, 1, 0, 0, 0]);
     feed.extend([0; 8]);
-    let mut spare = Spare::empty();
+    let mut spare = Replica::empty();
     let mut at = 0;
     let mut lines = Vec::new();
     while at < feed.len() {
@@ -82,14 +84,14 @@ fn insertion_and_conflicts() {
     let group = |ecus: &[u8]| lock(2, Scope::FunctionalGroup(3), ecus, 2);
     assert_eq!(
         insert(&mut spare, group(&[5, 6])),
-        Err(Refusal::CoverageConflict(id(1)))
+        Err(Refusal::CoverageConflict { id: id(1) })
     );
     // Refused, but the number moved on and the revision didn't.
     assert_eq!((spare.revision(), spare.expected()), (1, 2));
     assert_eq!(insert(&mut spare, group(&[6])), Ok(Done::Done));
     assert_eq!(
         insert(&mut spare, lock(2, Scope::Ecu(9), &[9], 1)),
-        Err(Refusal::DuplicateId(id(2)))
+        Err(Refusal::DuplicateId { id: id(2) })
     );
     assert_eq!(
         insert(&mut spare, lock(3, Scope::Ecu(5), &[], 1)),
@@ -99,16 +101,18 @@ fn insertion_and_conflicts() {
     child.parent = Some(id(1));
     assert_eq!(
         insert(&mut spare, child),
-        Err(Refusal::ParentNotVehicle(id(1)))
+        Err(Refusal::ParentNotVehicle { parent: id(1) })
     );
     assert_eq!(insert(&mut spare, vehicle(8, 3)), Ok(Done::Done));
     child.parent = Some(id(8));
     assert_eq!(
         insert(&mut spare, child),
-        Err(Refusal::Invariant(Reason::Owner {
-            child: id(4),
-            parent: id(8)
-        }))
+        Err(Refusal::Invariant {
+            reason: Reason::Owner {
+                child: id(4),
+                parent: id(8)
+            }
+        })
     );
     assert_eq!(spare.active_count(), 3);
     assert_eq!(spare.vehicle_lock_owner_sub(), Some(3));
@@ -215,7 +219,7 @@ fn expired_defunct_locks_are_named() {
 
 #[test]
 fn the_tree_goes_children_first() {
-    let mut spare = Spare::empty();
+    let mut spare = Replica::empty();
     let ecu = lock(3, Scope::Ecu(5), &[5], 1);
     let group = lock(1, Scope::FunctionalGroup(3), &[5, 6], 1);
     insert(&mut spare, ecu).unwrap();
@@ -246,7 +250,7 @@ fn the_tree_goes_children_first() {
 
 #[test]
 fn a_runtime_update_waits_for_locks() {
-    let mut spare = Spare::empty();
+    let mut spare = Replica::empty();
     assert_eq!(spare.prepare_runtime_update(4), Ok(5));
     assert_eq!(spare.prepare_runtime_update(u64::MAX), Ok(u64::MAX));
     insert(&mut spare, lock(1, Scope::Ecu(5), &[5], 1)).unwrap();
@@ -276,7 +280,7 @@ fn out_of_turn_is_never_applied() {
     let (record, _) = primary
         .perform(&Operation::Delete { id: id(1) })
         .expect("few ids");
-    let mut spare = Spare::empty();
+    let mut spare = Replica::empty();
     let image = spare.image().to_vec();
     let step = spare.apply(&record, 0);
     assert_eq!(step.answer, Err(Refusal::Ahead { expected: 0 }));
@@ -289,19 +293,19 @@ fn out_of_turn_is_never_applied() {
 #[test]
 fn images_are_tested() {
     let image = a().image().to_vec();
-    assert_eq!(Spare::from_image(&image).unwrap().image(), image);
+    assert_eq!(Replica::from_image(&image).unwrap().image(), image);
     assert_eq!(
-        Spare::from_image(&image[..40]).unwrap_err(),
+        Replica::from_image(&image[..40]).unwrap_err(),
         Refusal::Torn { offset: 20 }
     );
     assert_eq!(
-        Spare::from_image(&[]).unwrap_err(),
+        Replica::from_image(&[]).unwrap_err(),
         Refusal::Torn { offset: 0 }
     );
     let with = |at: usize, byte: u8| {
         let mut image = image.clone();
         image[at] = byte;
-        Spare::from_image(&image).map(|_| ())
+        Replica::from_image(&image).map(|_| ())
     };
     assert_eq!(with(2, 9), Err(Refusal::BadKind { offset: 0 }));
     assert_eq!(with(20 + 4 + 16, 3), Err(Refusal::BadField { offset: 20 }));
@@ -311,16 +315,16 @@ fn images_are_tested() {
     let mut long = image.clone();
     long.push(0);
     assert_eq!(
-        Spare::from_image(&long).unwrap_err(),
+        Replica::from_image(&long).unwrap_err(),
         Refusal::BadOrder { offset: 111 }
     );
 }
 
 #[test]
 fn the_number_wraps() {
-    let mut image = Spare::empty().image().to_vec();
+    let mut image = Replica::empty().image().to_vec();
     image[12..16].copy_from_slice(&u32::MAX.to_le_bytes());
-    let mut spare = Spare::from_image(&image).unwrap();
+    let mut spare = Replica::from_image(&image).unwrap();
     assert_eq!(spare.expected(), u32::MAX);
     assert_eq!(
         insert(&mut spare, lock(1, Scope::Ecu(5), &[5], 1)),
@@ -343,7 +347,7 @@ fn at_the_last_revision_entries_go_all_the_same() {
     );
     let mut image = spare.image().to_vec();
     image[4..12].copy_from_slice(&u64::MAX.to_le_bytes());
-    let mut spare = Spare::from_image(&image).unwrap();
+    let mut spare = Replica::from_image(&image).unwrap();
     let mut other = spare.clone();
     let refused = perform(&mut spare, Operation::AcknowledgeDefunct { id: id(1) });
     assert_eq!(refused.answer, Err(Refusal::RevisionOverflow));
@@ -362,7 +366,7 @@ fn a_short_buffer_is_told_and_left() {
     for (next, removed) in [(19, 91), (20, 90), (0, 0)] {
         let (mut next, mut removed) = (vec![7; next], vec![7; removed]);
         let applied = library::apply(spare.image(), &record, 0, &mut next, &mut removed, &mut []);
-        assert_eq!((applied.part, applied.told.number), (3, 21));
+        assert_eq!((applied.part, applied.told.number), (Part::ShortOutput, 21));
         assert_eq!(applied.told.values, [20, 91, 0, 0, 0]);
         assert!(next.iter().chain(&removed).all(|byte| *byte == 7));
     }
@@ -385,4 +389,67 @@ fn response_classes() {
         Refusal::RenewalNotExtension.response_class(),
         Some(ResponseClass::BadRequest)
     );
+}
+
+/// examples/story.image is what the story's first four records make of an empty state.
+#[test]
+fn the_story_s_image() {
+    let feed = include_bytes!("../../examples/story.feed");
+    let mut replica = Replica::empty();
+    let mut at = 0;
+    while replica.expected() < 4 {
+        at = replica.apply(feed, at).place;
+    }
+    assert!(replica.image() == include_bytes!("../../examples/story.image"));
+}
+
+/// Every number has its name and a text for a person, and no two texts are alike.
+#[test]
+fn refusals_in_words() {
+    let text = |number, values: [u64; 5]| {
+        let told = Told {
+            number,
+            count: 5,
+            values,
+        };
+        Refusal::from_told(&told).unwrap().to_string()
+    };
+    assert_eq!(
+        text(7, [0, 1, 0, 0, 0]),
+        "7 CoverageConflict: lock 00000000-0000-0000-0000-000000000001 is in the way"
+    );
+    assert_eq!(
+        text(12, [8, 0, 0, 0, 0]),
+        "12 UnsoundState: rule 8, two subjects' locks overlap"
+    );
+    assert_eq!(text(16, [41, 0, 0, 0, 0]), "16 Ahead: record 41 is missing");
+    assert_eq!(
+        text(11, [1, 0, 0, 0, 0]),
+        "11 Invariant: reason 1, the lock isn't a vehicle lock without a parent"
+    );
+    assert_eq!(
+        text(28, [0; 5]),
+        "28 Unknown: a later version of the library has this number"
+    );
+    let mut said = Vec::new();
+    for number in 1..=27 {
+        let text = text(number, [3, 0, 1, 0, 2]);
+        let (row, words) = text.split_once(": ").expect("a number, a name, and words");
+        assert!(
+            row.starts_with(&format!("{number} ")) && words.len() > 8,
+            "{text}"
+        );
+        said.push(words.to_owned());
+    }
+    said.sort();
+    said.dedup();
+    assert_eq!(said.len(), 27);
+}
+
+#[test]
+fn parts_by_number() {
+    for number in 0..4 {
+        assert_eq!(Part::from_number(number).unwrap().number(), number);
+    }
+    assert_eq!(Part::from_number(4), None);
 }

@@ -3,7 +3,7 @@
 
 use cablegorse::{
     ACTIVE_BYTES, Active, Coverage, DEFUNCT_BYTES, Defunct, EcuSet, LIST_LIMIT, ListTooLong, Lock,
-    LockId, NameTable, Operation, Refusal, Scope, TABLE_BYTES,
+    LockId, NameTable, Named, Operation, Refusal, Scope, TABLE_BYTES,
 };
 
 fn full() -> Active {
@@ -204,4 +204,38 @@ fn tables_come_back_and_fill_up() {
     let mut twice = bytes.to_vec();
     twice.copy_within(2..67, 67);
     assert_eq!(NameTable::from_bytes(&twice, true), Err(Refusal::BadTable));
+}
+
+#[test]
+fn a_new_name_is_told_apart() {
+    let mut subjects = NameTable::exact();
+    let named = |number, new| Ok(Named { number, new });
+    assert_eq!(subjects.learn(b"Ann"), named(0, true));
+    assert_eq!(subjects.learn(b"Bob"), named(1, true));
+    assert_eq!(subjects.learn(b"Ann"), named(0, false));
+    let before = subjects.clone();
+    assert_eq!(subjects.learn(&[b'x'; 65]), Err(Refusal::NameTooLong));
+    assert_eq!(subjects, before);
+}
+
+/// What the documentation of `NameTable` says of a table that is used the other way.
+#[test]
+fn folding_belongs_to_the_table() {
+    let mut ecus = NameTable::folding();
+    ecus.learn(b"Engine").unwrap();
+    let mut mistaken = NameTable::from_bytes(ecus.as_bytes(), false).unwrap();
+    assert_eq!(mistaken.number(b"Engine"), Ok(1), "one unit, two numbers");
+    assert_eq!(
+        NameTable::from_bytes(mistaken.as_bytes(), true),
+        Err(Refusal::BadTable)
+    );
+    let mut subjects = NameTable::exact();
+    subjects.learn(b"ann").unwrap();
+    let mut mistaken = NameTable::from_bytes(subjects.as_bytes(), true).unwrap();
+    assert_eq!(mistaken.number(b"Ann"), Ok(0), "two testers, one number");
+    subjects.learn(b"Ann").unwrap();
+    assert_eq!(
+        NameTable::from_bytes(subjects.as_bytes(), true),
+        Err(Refusal::BadTable)
+    );
 }

@@ -1,6 +1,6 @@
 // SPDX-License-Identifier: Apache-2.0
 //! What the static library must answer, worked out by the judge: the same numbers, values and
-//! bytes, into the same kind of buffers. docs/INTEGRATION.md, "The boundary", has the table.
+//! bytes, into the same kind of buffers. include/cablegorse.h has the tables.
 
 use crate::{
     answer::{Class, Refusal, Seen, Told as Word},

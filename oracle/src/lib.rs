@@ -10,7 +10,7 @@
 //! - [`generate`]: seeded random sound states, operations, reads, feeds and damage.
 //! - [`small`]: every state and operation of a tiny universe.
 //! - [`vectors`]: a fixed sample of the answers as data.
-//! - [`bench`]: states and operations to time.
+//! - [`mod@bench`]: states and operations to time.
 //! - [`sweep`]: every single-byte change and every cut of an image.
 //! - [`original`]: the original itself behind numbers, for benchmarks.
 //!

@@ -46,7 +46,7 @@ pub fn insert_active(state: &mut LockState, lock: ActiveLock) -> Answer
 pub fn insert_vehicle(state: &mut LockState, lock: ActiveLock, list: &[u64]) -> Answer
     ensures { λ r. ⌜ inserted r (now (state .exit)) ≡ insertVehicleOn (now (state .entry)) lock (now (list .entry)) ⌝ }
 {
-    let r = operations::vehicle::insert_vehicle(*state, lock, list);
+    let r = operations::insert_vehicle::insert_vehicle(*state, lock, list);
     *state = r.state;
     r.told
 }

@@ -7,9 +7,10 @@ use image::Writing;
 use operations::acknowledge;
 use operations::delete;
 use operations::insert;
+use operations::insert_vehicle;
 use operations::renew;
 use operations::replace;
-use operations::vehicle;
+use records::layout;
 use rules::Verdict;
 use state::ActiveLock;
 use state::Lock;
@@ -66,7 +67,7 @@ fn changed(s: LockState, what: u8) -> u64 {
         }
         3 => {
             let none = [0u64; 0];
-            let r = vehicle::insert_vehicle(s, new_lock(ScopeKey::Vehicle), &none);
+            let r = insert_vehicle::insert_vehicle(s, new_lock(ScopeKey::Vehicle), &none);
             sum(r.state)
         }
         4 => {
@@ -124,7 +125,7 @@ fn turns(s: LockState, what: u8, n: u64) -> u64 {
 // ---- an image read and written, and what they are compared with: real copies. Each turn reads what the turn before left, at a
 // place that only the sum so far tells, so that no copy can be left out.
 fn low(x: u64) -> u8 {
-    (x % 256) as u8
+    (x % 0x100) as u8
 }
 
 fn wide(b: u8) -> u64 {
@@ -140,10 +141,10 @@ fn place(total: u64, n: usize) -> usize {
 
 // The image with another lowest byte of its revision.
 fn read_once(bytes: &mut [u8], total: u64) -> u64 {
-    if bytes.len() < 20 {
+    if bytes.len() < layout::HEAD_RECORD {
         return 0;
     }
-    bytes[4] = low(total);
+    bytes[layout::FRAME] = low(total);
     let r = image::read::read_image(bytes);
     let spare = r.spare;
     sum(spare.state)
@@ -203,10 +204,10 @@ fn copy(from: &[u8], to: &mut [u8]) {
 }
 
 fn copy_once(bytes: &mut [u8], out: &mut [u8], total: u64) -> u64 {
-    if bytes.len() < 20 {
+    if bytes.len() < layout::HEAD_RECORD {
         return 0;
     }
-    bytes[4] = low(total);
+    bytes[layout::FRAME] = low(total);
     copy(bytes, out);
     byte_at(out, place(total, bytes.len()))
 }

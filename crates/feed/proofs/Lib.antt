@@ -1,5 +1,4 @@
 pub mod Stepping
 pub mod Words
 pub mod Turning
-pub mod Moving
 pub mod Running

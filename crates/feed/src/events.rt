@@ -1,20 +1,17 @@
 // What a step over the feed tells: the event, where the next record starts, and what the operation removed.
 // SPDX-License-Identifier: Apache-2.0
+use crate::turns;
+use calls::Outcome;
+use calls::Performed;
 use ids::LockId;
 use image::Spare;
-use operations::answers::Acknowledgement;
-use operations::answers::Answer;
-use operations::answers::DefunctExpiry;
-use operations::answers::Deletion;
-use operations::answers::Expiration;
-use operations::answers::Renewal;
 use state::ActiveLock;
 use state::LockState;
 ghost use mathlib.Core.Path.{_≡_};
-ghost use Rattle.feed.specs.Feed.{telling, plain, still};
+ghost use Rattle.feed.specs.Feed.{plain, still, onward, isApplied};
+ghost use Rattle.feed.specs.Runs.{stops};
 
-// The first six leave the spare as it is: 12, 17 to 19 with the record's offset, 15 and 16 with the expected number.
-// The others hold what an applied operation answered.
+// All but the last leave the spare as it is: 12, 17 to 19 with the record's offset, 15 and 16 with the expected number.
 pub enum Event {
     UnsoundState(u8),
     Torn(usize),
@@ -22,14 +19,7 @@ pub enum Event {
     BadField(usize),
     Repeat(u32),
     Ahead(u32),
-    Inserted(Answer),
-    VehicleInserted(Answer),
-    Renewed(Renewal),
-    Deleted(Deletion),
-    ExpirationBegun(Expiration),
-    Replaced(Answer),
-    Acknowledged(Acknowledgement),
-    DefunctsExpired(DefunctExpiry),
+    Applied(Outcome),
 }
 
 // sequence: the record's, 0 where none was read. next: the place after the record; after 12 and 17 to 19 the place itself.
@@ -49,32 +39,20 @@ pub struct Step {
     pub spare: Spare,
 }
 
-pub(crate) fn telling(
-    event: Event,
-    sequence: u32,
-    next: usize,
-    gone: usize,
-    removed: [ActiveLock; LockState::ACTIVE],
-) -> Told
-    ensures { λ r. ⌜ r ≡ telling event sequence next gone removed ⌝ }
+// Nothing was removed.
+fn plain(event: Event, sequence: u32, next: usize) -> Told
+    ensures { λ r. ⌜ r ≡ plain event sequence next ⌝ }
 {
+    let b = state::blank_active();
     Told {
         event,
         sequence,
         next,
-        gone,
-        removed,
+        gone: 0,
+        removed: [b; LockState::ACTIVE],
         lapsed: 0,
         ids: [LockId { hi: 0, lo: 0 }; LockState::DEFUNCT],
     }
-}
-
-// Nothing was removed.
-pub(crate) fn plain(event: Event, sequence: u32, next: usize) -> Told
-    ensures { λ r. ⌜ r ≡ plain event sequence next ⌝ }
-{
-    let b = state::blank_active();
-    telling(event, sequence, next, 0, [b; LockState::ACTIVE])
 }
 
 // The spare stays as it is.
@@ -84,5 +62,56 @@ pub(crate) fn still(spare: Spare, event: Event, sequence: u32, next: usize) -> S
     Step {
         told: plain(event, sequence, next),
         spare,
+    }
+}
+
+// The spare after an operation: the state that it left, and the next number is due, refused or not.
+pub(crate) fn onward(spare: Spare, sequence: u32, next: usize, done: Performed) -> Step
+    ensures { λ r. ⌜ r ≡ onward spare sequence next done ⌝ }
+{
+    let outcome = done.outcome;
+    let removed = done.removed;
+    let ids = done.ids;
+    let state = done.state;
+    Step {
+        told: Told {
+            event: Event::Applied(outcome),
+            sequence,
+            next,
+            gone: done.gone,
+            removed,
+            lapsed: done.lapsed,
+            ids,
+        },
+        spare: Spare {
+            state,
+            expected: turns::after(spare.expected),
+        },
+    }
+}
+
+// Whether the record reached its operation.
+pub fn is_applied(event: Event) -> bool
+    ensures { λ r. ⌜ r ≡ isApplied event ⌝ }
+{
+    if let Event::Applied(_) = event {
+        true
+    } else {
+        false
+    }
+}
+
+// Whether no record could be read: 12, 17 to 19.
+pub fn stops(event: Event) -> bool
+    ensures { λ r. ⌜ r ≡ stops event ⌝ }
+{
+    match event {
+        Event::UnsoundState(_) => true,
+        Event::Torn(_) => true,
+        Event::BadKind(_) => true,
+        Event::BadField(_) => true,
+        Event::Repeat(_) => false,
+        Event::Ahead(_) => false,
+        Event::Applied(_) => false,
     }
 }

@@ -1,46 +1,48 @@
 // The feed: the record at a place is read and, where its number is the one that is due, applied to the spare.
 // SPDX-License-Identifier: Apache-2.0
-mod applying;
 pub mod events;
 pub mod numbers;
+pub mod taking;
 pub mod turns;
 
 use events::Event;
 use events::Step;
 use image::Spare;
-use records::frame;
-use records::frame::Framed;
-use records::kinds;
 use records::requests;
-use records::requests::Asked;
-use records::requests::Request;
 use rules::Verdict;
+use taking::Placed;
+use taking::Taken;
 ghost use mathlib.Core.Path.{_≡_};
-ghost use Rattle.records.specs.Feeds.{requestOf};
-ghost use Rattle.feed.specs.Feed.{turnOn, askedOn, stepOn};
+ghost use Rattle.feed.specs.Feed.{numbered, actOn, turnOn, stepOn};
 
-// Half of the numbers lie ahead of the expected one, the others behind it.
-fn take_turn(spare: Spare, body: &[u8], sequence: u32, next: usize, request: Request) -> Step
-    ensures { λ r. ⌜ r ≡ turnOn spare (now (body .entry)) sequence next request ⌝ }
+// The request handed to its operation, and the ids in the record's body with it.
+fn apply(spare: Spare, placed: Placed, body: &[u8]) -> Step
+    ensures { λ r. ⌜ r ≡ actOn spare (placed .frame .next) (numbered placed (now (body .entry))) ⌝ }
 {
-    let far = turns::distance(sequence, spare.expected);
-    if far == 0 {
-        return applying::apply(spare, body, sequence, next, request);
-    }
-    if far <= 2147483647 {
-        return events::still(spare, Event::Ahead(spare.expected), sequence, next);
-    }
-    events::still(spare, Event::Repeat(spare.expected), sequence, next)
+    let request = placed.request;
+    let frame = placed.frame;
+    let list = requests::list_in(request, body);
+    let words = requests::words_of(list);
+    let n = requests::word_count(list.len());
+    let state = spare.state;
+    let done = calls::perform(state, request, &words[0..n]);
+    events::onward(spare, placed.sequence, frame.next, done)
 }
 
-// The body of a record that starts at `at` and ends before `next`.
-fn take_body(spare: Spare, kind: u16, body: &[u8], at: usize, next: usize) -> Step
-    ensures { λ r. ⌜ r ≡ askedOn spare (now (body .entry)) at next (requestOf kind (now (body .entry))) ⌝ }
+// Half of the numbers lie ahead of the expected one, the others behind it.
+fn take_turn(spare: Spare, placed: Placed, body: &[u8]) -> Step
+    ensures { λ r. ⌜ r ≡ turnOn spare (placed .frame .next) (numbered placed (now (body .entry))) ⌝ }
 {
-    match requests::decode_request(kind, body) {
-        Asked::Good(sequence, request) => take_turn(spare, body, sequence, next, request),
-        Asked::BadField => events::still(spare, Event::BadField(at), 0, at),
+    let frame = placed.frame;
+    let sequence = placed.sequence;
+    let far = turns::distance(sequence, spare.expected);
+    if far == 0 {
+        return apply(spare, placed, body);
     }
+    if far <= 2147483647 {
+        return events::still(spare, Event::Ahead(spare.expected), sequence, frame.next);
+    }
+    events::still(spare, Event::Repeat(spare.expected), sequence, frame.next)
 }
 
 pub fn step(spare: Spare, feed: &[u8], at: usize) -> Step
@@ -51,14 +53,15 @@ pub fn step(spare: Spare, feed: &[u8], at: usize) -> Step
     if let Verdict::Broken(n) = v {
         return events::still(spare, Event::UnsoundState(n), 0, at);
     }
-    match frame::frame_at(feed, at, kinds::IN_FEED) {
-        Framed::Torn(x) => events::still(spare, Event::Torn(x), 0, at),
-        Framed::BadKind(x) => events::still(spare, Event::BadKind(x), 0, at),
-        Framed::BadField(x) => events::still(spare, Event::BadField(x), 0, at),
-        Framed::Record(f) => {
-            let start = f.start;
-            let end = start + f.size;
-            take_body(spare, f.kind, &feed[start..end], at, f.next)
+    match taking::taken_at(feed, at) {
+        Taken::Torn(x) => events::still(spare, Event::Torn(x), 0, at),
+        Taken::BadKind(x) => events::still(spare, Event::BadKind(x), 0, at),
+        Taken::BadField(x) => events::still(spare, Event::BadField(x), 0, at),
+        Taken::Record(placed) => {
+            let frame = placed.frame;
+            let start = frame.start;
+            let end = start + frame.size;
+            take_turn(spare, placed, &feed[start..end])
         }
     }
 }

@@ -12,7 +12,7 @@ use Rattle.lists.specs.Lists.{any, filter}
 use Rattle.lists.proofs.Tests.{or-t, or-f}
 use Rattle.ids.specs.declared.LockId.{LockId}
 use Rattle.ids.specs.Order.{sameId, beforeId}
-use Rattle.ids.specs.Words.{idsOf, listedIn, lower, lowestOf}
+use Rattle.ids.specs.Words.{idsOf, listedIn}
 
 abbrev pub idAt : List ℕ → ℕ → LockId
 idAt ws j = record { hi = getD ws j 0; lo = getD ws (j + 1) 0 }
@@ -46,6 +46,14 @@ module _ (ws : List ℕ) (i : LockId) (j : ℕ) (q : any (sameId i) (idsOf (drop
   word-end h = sym (ap (any (sameId i)) (no-id ws j h)) ∙ q
 
 -- ---- the lowest id that the test p picks: a loop that keeps the best so far
+abbrev pub lower : Option LockId → LockId → Option LockId
+lower none i = some i
+lower (some b) i = cond (beforeId i b) (some i) (some b)
+
+abbrev pub lowestOf : Option LockId → List LockId → Option LockId
+lowestOf b [] = b
+lowestOf b (i ∷ is) = lowestOf (lower b i) is
+
 abbrev pub bestOf : Bool → LockId → Option LockId
 bestOf true b = some b
 bestOf false b = none
@@ -80,7 +88,3 @@ module _ (p : LockId → Bool) (ws : List ℕ) where
 
     pub end-ids : length ws - j < 2 → onFrom f b j ≡ lowestWhere → bestOf f b ≡ lowestWhere
     end-ids h e = sym (ap (λ (is : List LockId). lowestOf (bestOf f b) (filter p is)) (no-id ws j h)) ∙ e
-
-pub pick-all : (l : List LockId) → filter (λ i. true) l ≡ l
-pick-all [] = refl
-pick-all (i ∷ is) = ap (λ (t : List LockId). i ∷ t) (pick-all is)

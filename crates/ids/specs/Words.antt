@@ -3,14 +3,11 @@
 use Prim.Native.Nat.{ℕ, _%_}
 use mathlib.Core.Bool.{Bool, true, false, cond}
 use mathlib.Core.List.{List, [], _∷_}
-use mathlib.Core.Option.{Option, none, some}
 use lib.Dec.{eqb}
 use lib.ListN.{length}
 use Rattle.lists.specs.Tests.{non}
 use Rattle.lists.specs.Lists.{any}
 use Rattle.ids.specs.declared.LockId.{LockId}
-use Rattle.ids.specs.declared.Found.{Found}
-use Rattle.ids.specs.declared.Found.the-variants.{Nothing, Id}
 use Rattle.ids.specs.Order.{sameId, beforeId}
 
 abbrev pub idsOf : List ℕ → List LockId
@@ -26,16 +23,14 @@ oddWords ws = non (eqb (length ws % 2) 0)
 unfoldable pub listedIn : List ℕ → LockId → Bool
 listedIn ws i = any (sameId i) (idsOf ws)
 
--- the lowest of b and the ids of a list
-abbrev pub lower : Option LockId → LockId → Option LockId
-lower none i = some i
-lower (some b) i = cond (beforeId i b) (some i) (some b)
+-- ---- "repeats dropped, ascending"
+abbrev pub insertId : LockId → List LockId → List LockId
+insertId i [] = i ∷ []
+insertId i (j ∷ js) = cond (beforeId i j) (i ∷ (j ∷ js)) (cond (sameId i j) (j ∷ js) (j ∷ insertId i js))
 
-abbrev pub lowestOf : Option LockId → List LockId → Option LockId
-lowestOf b [] = b
-lowestOf b (i ∷ is) = lowestOf (lower b i) is
+abbrev pub insertIds : List LockId → List LockId → List LockId
+insertIds [] js = js
+insertIds (i ∷ is) js = insertIds is (insertId i js)
 
--- the code's answer for an id that may be missing
-abbrev pub foundId : Option LockId → Found
-foundId none = Nothing
-foundId (some i) = Id i
+abbrev pub ascendingIds : List ℕ → List LockId
+ascendingIds ws = insertIds (idsOf ws) []

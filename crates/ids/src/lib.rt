@@ -1,28 +1,13 @@
 // Lock ids: 16 bytes, compared from the first byte; and lists of them as words.
 // SPDX-License-Identifier: Apache-2.0
-ghost use mathlib.Core.Option.{none};
 ghost use mathlib.Core.Path.{_≡_};
-ghost use Rattle.ids.specs.Order.{sameId, beforeId, noId};
-ghost use Rattle.ids.specs.Words.{idsOf, oddWords, listedIn, lowestOf, foundId};
+ghost use Rattle.ids.specs.Order.{sameId, beforeId};
+ghost use Rattle.ids.specs.Words.{oddWords, listedIn};
 
 // The first eight bytes are hi, the last eight lo, each big-endian.
 pub struct LockId {
     pub hi: u64,
     pub lo: u64,
-}
-
-pub enum Found {
-    Nothing,
-    Id(LockId),
-}
-
-impl LockId {
-    // The id of a blank place. It is a valid id too: a count tells a blank from a lock.
-    pub fn zero() -> LockId
-        ensures { λ r. ⌜ r ≡ noId ⌝ }
-    {
-        LockId { hi: 0, lo: 0 }
-    }
 }
 
 pub fn same(a: LockId, b: LockId) -> bool
@@ -59,28 +44,4 @@ pub fn listed(list: &[u64], id: LockId) -> bool
         }
     }
     false
-}
-
-// The lowest id of the list. A list need not be sorted and may repeat an id.
-pub fn lowest(list: &[u64]) -> Found
-    ensures { λ r. ⌜ r ≡ foundId (lowestOf none (idsOf (now (list .entry)))) ⌝ }
-{
-    let n = list.len();
-    let mut found = false;
-    let mut best = LockId { hi: 0, lo: 0 };
-    let mut j: usize = 0;
-    while 1 < n - j {
-        let h = list[j];
-        let l = list[j + 1];
-        let id = LockId { hi: h, lo: l };
-        j += 2;
-        if !found | less(id, best) {
-            best = id;
-            found = true;
-        }
-    }
-    if found {
-        return Found::Id(best);
-    }
-    Found::Nothing
 }

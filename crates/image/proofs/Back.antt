@@ -30,7 +30,7 @@ use Rattle.records.proofs.Codecs.{is-good, round-trips}
 use Rattle.records.proofs.Table.{rule}
 use Rattle.records.proofs.Framing.{whole, record-part}
 use Rattle.image.specs.declared.Reading.the-variants.{BadField, BadOrder}
-use Rattle.image.specs.Image.{Got, stopped, got, andThen, recordAt, Listed, activeList, defunctList, runAt, Held, heldOf, listsAt, heldIn, bytesOfOne, bytesOfRun, headOf, imageOf}
+use Rattle.image.specs.Image.{Got, stopped, got, andThen, recordAt, Listed, activeList, defunctList, lowAfter, runAt, Held, heldOf, listsAt, heldBy, bytesOfOne, bytesOfRun, headOf, imageOf}
 use Rattle.image.proofs.Halves.{taken, first, none, run-length, then-got, cond-got}
 use Rattle.image.proofs.Writes.{Plain, head-plain, active-plain, defunct-plain}
 
@@ -68,16 +68,16 @@ module _ {R : Type 0} {k due : ℕ} (c : Codec R) (p : Plain k due c) (alone : Y
       }
 
 -- ---- a run
-module _ {R : Type 0} (e : Listed R) (p : Plain (e .kind) (e .place) (e .codec)) (alone : Yes (one-kind (e .kind) (e .place))) (s : List ℕ) (y : Bytes s) where
+module _ {R : Type 0} (e : Listed R) (strict : Bool) (p : Plain (e .kind) (e .place) (e .codec)) (alone : Yes (one-kind (e .kind) (e .place))) (s : List ℕ) (y : Bytes s) where
   pub record Run (n at : ℕ) (l : List R) (m : ℕ) : Type 0 where
     pub bytes : part s at (n * (total (e .codec .layout) + 4)) ≡ bytesOfRun e l
     pub after : m ≡ at + n * (total (e .codec .layout) + 4)
     pub within : m ≤ length s
 
-  pub run-back : (n low at : ℕ) (l : List R) (m : ℕ) → at ≤ length s → runAt e s n low at ≡ got l m → Run n at l m
+  pub run-back : (n low at : ℕ) (l : List R) (m : ℕ) → at ≤ length s → runAt e strict s n low at ≡ got l m → Run n at l m
   unfolding bytesOfAll
   run-back zero low at l m h q =
-      let z = none e s low at l m q in
+      let z = none e strict s low at l m q in
       record {
         bytes = ap (part s at) (zero-mul (total (e .codec .layout) + 4)) ∙ ap (bytesOfRun e) (sym (z .0));
         after = z .1 ∙ (let x : at ≡ at + 0 * (total (e .codec .layout) + 4) = omega arith in x);
@@ -85,9 +85,9 @@ module _ {R : Type 0} (e : Listed R) (p : Plain (e .kind) (e .place) (e .codec))
       }
   run-back (suc n) low at l m h q =
       let size : ℕ = total (e .codec .layout) + 4 in
-      let f = first e s n low at l m q in
+      let f = first e strict s n low at l m q in
       let o = record-back (e .codec) p alone s y at (f .next) (f .one) (f .read) in
-      let r = run-back n (suc (e .id (f .one))) (f .next) (f .rest) m (o .within) (f .others) in
+      let r = run-back n (lowAfter strict (e .id (f .one))) (f .next) (f .rest) m (o .within) (f .others) in
       record {
         bytes =
             ap (part s at) (let z : suc n * size ≡ size + n * size = omega arith in z)
@@ -107,19 +107,19 @@ defunct-alone : Yes (one-kind 3 atDefunct)
 unfolding rows _imp_ _and_
 defunct-alone = refl
 
-pub held-back : (s : List ℕ) → Bytes s → (x : Held) (end : ℕ) → heldIn s ≡ got x end → (imageOf (x .model) (x .expected) ≡ s) × (end ≡ length s)
-unfolding heldIn listsAt imageOf
-held-back s y x end e =
-    let w = then-got (recordAt wire.head atHead s 0) (listsAt s) x end e in
+pub held-back : (strict : Bool) (s : List ℕ) → Bytes s → (x : Held) (end : ℕ) → heldBy strict s ≡ got x end → (imageOf (x .model) (x .expected) ≡ s) × (end ≡ length s)
+unfolding heldBy listsAt imageOf
+held-back strict s y x end e =
+    let w = then-got (recordAt wire.head atHead s 0) (listsAt strict s) x end e in
     let h : Head = w .0 in
-    let v = then-got (runAt activeList s (h .actives) 0 (w .1)) _ x end (w .3) in
-    let u = then-got (runAt defunctList s (h .defuncts) 0 (v .1)) _ x end (v .3) in
+    let v = then-got (runAt activeList strict s (h .actives) 0 (w .1)) _ x end (w .3) in
+    let u = then-got (runAt defunctList strict s (h .defuncts) 0 (v .1)) _ x end (v .3) in
     let c = cond-got (ltb (u .1) (length s)) (BadOrder (u .1)) (got (heldOf h (v .0) (u .0)) (u .1)) x end (u .3) in
     let ho = record-back wire.head head-plain head-alone s y 0 (w .1) h (w .2) in
-    let ao = run-back activeList active-plain active-alone s y (h .actives) 0 (w .1) (v .0) (v .1) (ho .within) (v .2) in
-    let dd = run-back defunctList defunct-plain defunct-alone s y (h .defuncts) 0 (v .1) (u .0) (u .1) (ao .within) (u .2) in
-    let na = run-length activeList s (h .actives) 0 (w .1) (v .0) (v .1) (v .2) in
-    let nd = run-length defunctList s (h .defuncts) 0 (v .1) (u .0) (u .1) (u .2) in
+    let ao = run-back activeList strict active-plain active-alone s y (h .actives) 0 (w .1) (v .0) (v .1) (ho .within) (v .2) in
+    let dd = run-back defunctList strict defunct-plain defunct-alone s y (h .defuncts) 0 (v .1) (u .0) (u .1) (ao .within) (u .2) in
+    let na = run-length activeList strict s (h .actives) 0 (w .1) (v .0) (v .1) (v .2) in
+    let nd = run-length defunctList strict s (h .defuncts) 0 (v .1) (u .0) (u .1) (u .2) in
     let same : headOf (heldOf h (v .0) (u .0) .model) (h .expected) ≡ h = λ i. record { revision = h .revision; expected = h .expected; actives = na i; defuncts = nd i } in
     let told = told-one (c .1) in
     let full : u .1 ≡ length s = omega (arith, dd .within, ltb-false (u .1) (length s) (c .0)) in (

@@ -31,7 +31,10 @@ use Rattle.image.specs.declared.Reading.{Reading}
 use Rattle.image.specs.declared.Reading.the-variants.{Done, Torn, BadKind, BadField, BadOrder, UnsoundState}
 use Rattle.image.specs.declared.read.Actives.{Actives}
 use Rattle.image.specs.declared.read.Defuncts.{Defuncts}
-use Rattle.image.specs.Image.{Got, stopped, got, andThen, ofFrame, recordAt, Listed, activeList, defunctList, ahead, runAt, Held, heldOf, listsAt, heldIn, refusal, imaged, recordsOf, judged, tested, readOn}
+use Rattle.image.specs.Image.{Got, stopped, got, andThen, ofFrame, recordAt, Listed, activeList, defunctList, ahead, lowAfter, runAt, Held, heldOf, listsAt, heldBy, refusal, imaged, recordsOf, judged, tested, readOn}
+use Rattle.image.specs.declared.reader.HeadStep.{HeadStep}
+use Rattle.image.specs.declared.reader.HeadStep.the-variants as head
+use Rattle.image.specs.Steps.{headStep, headAt}
 use Rattle.image.specs.Code.{isDone, toldOf, afterOf, placesOf, ranActives, ranDefuncts}
 
 -- ---- what stops reading is a refusal
@@ -57,27 +60,27 @@ record-fault : {R : Type 0} (c : Codec R) (due : ℕ) (s : List ℕ) (at : ℕ) 
 unfolding recordAt
 record-fault c due s at = frame-fault c s at (frameAt s at due)
 
-module _ {R : Type 0} (e : Listed R) (s : List ℕ) where
+module _ {R : Type 0} (e : Listed R) (strict : Bool) (s : List ℕ) where
   ahead-fault : (r : R) (g : Got (List R)) → Fault g → Fault (ahead e r g)
   ahead-fault r (stopped x) k = k
   ahead-fault r (got l n) k = tt
 
-  pub run-fault : (n low at : ℕ) → Fault (runAt e s n low at)
+  pub run-fault : (n low at : ℕ) → Fault (runAt e strict s n low at)
   unfolding runAt
   run-fault zero low at = tt
   run-fault (suc n) low at = then-fault (recordAt (e .codec) (e .place) s at) _ (record-fault (e .codec) (e .place) s at)
-      (λ r next. cond-both Fault (stopped (BadOrder at)) (ahead e r (runAt e s n (suc (e .id r)) next)) (ltb (e .id r) low) (λ t. refl) (λ t. ahead-fault r (runAt e s n (suc (e .id r)) next) (run-fault n (suc (e .id r)) next)))
+      (λ r next. cond-both Fault (stopped (BadOrder at)) (ahead e r (runAt e strict s n (lowAfter strict (e .id r)) next)) (ltb (e .id r) low) (λ t. refl) (λ t. ahead-fault r (runAt e strict s n (lowAfter strict (e .id r)) next) (run-fault n (lowAfter strict (e .id r)) next)))
 
-module _ (s : List ℕ) where
-  lists-fault : (h : Head) (at : ℕ) → Fault (listsAt s h at)
+module _ (strict : Bool) (s : List ℕ) where
+  lists-fault : (h : Head) (at : ℕ) → Fault (listsAt strict s h at)
   unfolding listsAt
-  lists-fault h at = then-fault (runAt activeList s (h .actives) 0 at) _ (run-fault activeList s (h .actives) 0 at)
-      (λ xs next. then-fault (runAt defunctList s (h .defuncts) 0 next) _ (run-fault defunctList s (h .defuncts) 0 next)
+  lists-fault h at = then-fault (runAt activeList strict s (h .actives) 0 at) _ (run-fault activeList strict s (h .actives) 0 at)
+      (λ xs next. then-fault (runAt defunctList strict s (h .defuncts) 0 next) _ (run-fault defunctList strict s (h .defuncts) 0 next)
       (λ ys end. cond-both Fault (stopped (BadOrder end)) (got (heldOf h xs ys) end) (ltb end (length s)) (λ t. refl) (λ t. tt)))
 
-  pub held-fault : (x : Reading) → heldIn s ≡ stopped x → No (isDone x)
-  unfolding heldIn
-  held-fault x e = subst Fault e (then-fault (recordAt wire.head atHead s 0) (listsAt s) (record-fault wire.head atHead s 0) lists-fault)
+  pub held-fault : (x : Reading) → heldBy strict s ≡ stopped x → No (isDone x)
+  unfolding heldBy
+  held-fault x e = subst Fault e (then-fault (recordAt wire.head atHead s 0) (listsAt strict s) (record-fault wire.head atHead s 0) lists-fault)
 
 -- ---- a record that was read: its frame, and its body
 module _ {R : Type 0} (c : Codec R) (due : ℕ) (s : List ℕ) (at : ℕ) where
@@ -124,7 +127,7 @@ pub cond-got : {A : Type 0} (c : Bool) (x : Reading) (g : Got A) (a : A) (n : �
 cond-got true x g a n e = absurd (let z : _≡_ {A = ℕ} 0 1 = cc in omega arith)
 cond-got false x g a n e = (refl, e)
 
-module _ {R : Type 0} (e : Listed R) (s : List ℕ) where
+module _ {R : Type 0} (e : Listed R) (strict : Bool) (s : List ℕ) where
   ahead-got : (r : R) (g : Got (List R)) (l : List R) (m : ℕ) → ahead e r g ≡ got l m → (rs : List R) × (g ≡ got rs m) × (l ≡ r ∷ rs)
   ahead-got r (stopped x) l m q = absurd (let z : _≡_ {A = ℕ} 0 1 = cc in omega arith)
   ahead-got r (got rs n) l m q = (rs, cc, cc)
@@ -135,25 +138,25 @@ module _ {R : Type 0} (e : Listed R) (s : List ℕ) where
     pub rest : List R
     pub read : recordAt (e .codec) (e .place) s at ≡ got one next
     pub order : No (ltb (e .id one) low)
-    pub others : runAt e s n (suc (e .id one)) next ≡ got rest m
+    pub others : runAt e strict s n (lowAfter strict (e .id one)) next ≡ got rest m
     pub all : l ≡ one ∷ rest
 
-  pub first : (n low at : ℕ) (l : List R) (m : ℕ) → runAt e s (suc n) low at ≡ got l m → First n low at l m
+  pub first : (n low at : ℕ) (l : List R) (m : ℕ) → runAt e strict s (suc n) low at ≡ got l m → First n low at l m
   unfolding runAt
   first n low at l m q =
       let w = then-got (recordAt (e .codec) (e .place) s at) _ l m q in
-      let u = cond-got (ltb (e .id (w .0)) low) (BadOrder at) (ahead e (w .0) (runAt e s n (suc (e .id (w .0))) (w .1))) l m (w .3) in
-      let v = ahead-got (w .0) (runAt e s n (suc (e .id (w .0))) (w .1)) l m (u .1) in
+      let u = cond-got (ltb (e .id (w .0)) low) (BadOrder at) (ahead e (w .0) (runAt e strict s n (lowAfter strict (e .id (w .0))) (w .1))) l m (w .3) in
+      let v = ahead-got (w .0) (runAt e strict s n (lowAfter strict (e .id (w .0))) (w .1)) l m (u .1) in
       record { one = w .0; next = w .1; rest = v .0; read = w .2; order = u .0; others = v .1; all = v .2 }
 
-  pub none : (low at : ℕ) (l : List R) (m : ℕ) → runAt e s 0 low at ≡ got l m → (l ≡ []) × (m ≡ at)
+  pub none : (low at : ℕ) (l : List R) (m : ℕ) → runAt e strict s 0 low at ≡ got l m → (l ≡ []) × (m ≡ at)
   unfolding runAt
   none low at l m q = (cc, cc)
 
   -- as many as were asked for
-  pub run-length : (n low at : ℕ) (l : List R) (m : ℕ) → runAt e s n low at ≡ got l m → length l ≡ n
+  pub run-length : (n low at : ℕ) (l : List R) (m : ℕ) → runAt e strict s n low at ≡ got l m → length l ≡ n
   run-length zero low at l m q = ap length (none low at l m q .0)
-  run-length (suc n) low at l m q = let f = first n low at l m q in ap length (f .all) ∙ ap suc (run-length n (suc (e .id (f .one))) (f .next) (f .rest) m (f .others))
+  run-length (suc n) low at l m q = let f = first n low at l m q in ap length (f .all) ∙ ap suc (run-length n (lowAfter strict (e .id (f .one))) (f .next) (f .rest) m (f .others))
 
 -- ---- what the code tells of a run
 pub failed : {A : Type 0} (g : Got A) (t : Reading) → t ≡ toldOf g → No (isDone t) → g ≡ stopped t
@@ -166,65 +169,77 @@ pub record Ran {R : Type 0} (e : Listed R) (g : Got (List R)) (n at : ℕ) (lock
   pub held : locks ≡ inPlaces (e .most) (e .blank) list
   pub count : length list ≡ n
 
-pub ran : {R : Type 0} (e : Listed R) (s : List ℕ) (n low from : ℕ) (t : Reading) (at : ℕ) (locks : List R)
-    → t ≡ toldOf (runAt e s n low from) → at ≡ afterOf (runAt e s n low from) → locks ≡ placesOf e (runAt e s n low from) → Yes (isDone t) → Ran e (runAt e s n low from) n at locks
-ran {R} e s n low from t at locks et ea el k = go (runAt e s n low from) refl (run-fault e s n low from) et ea el
+pub ran : {R : Type 0} (e : Listed R) (strict : Bool) (s : List ℕ) (n low from : ℕ) (t : Reading) (at : ℕ) (locks : List R)
+    → t ≡ toldOf (runAt e strict s n low from) → at ≡ afterOf (runAt e strict s n low from) → locks ≡ placesOf e (runAt e strict s n low from) → Yes (isDone t) → Ran e (runAt e strict s n low from) n at locks
+ran {R} e strict s n low from t at locks et ea el k = go (runAt e strict s n low from) refl (run-fault e strict s n low from) et ea el
   where
-    go : (g : Got (List R)) → runAt e s n low from ≡ g → Fault g → t ≡ toldOf g → at ≡ afterOf g → locks ≡ placesOf e g → Ran e (runAt e s n low from) n at locks
+    go : (g : Got (List R)) → runAt e strict s n low from ≡ g → Fault g → t ≡ toldOf g → at ≡ afterOf g → locks ≡ placesOf e g → Ran e (runAt e strict s n low from) n at locks
     go (stopped x) q f a b d = absurd (against f (ap isDone (sym a) ∙ k))
-    go (got l m) q f a b d = record { list = l; is = q ∙ ap (got l) (sym b); held = d; count = run-length e s n low from l m q }
+    go (got l m) q f a b d = record { list = l; is = q ∙ ap (got l) (sym b); held = d; count = run-length e strict s n low from l m q }
 
 -- ---- both lists, from the place after HEAD on: what the code shows at each of its answers
-module _ (s : List ℕ) (h : Head) (at : ℕ) (a : Actives) (ea : a ≡ ranActives (runAt activeList s (h .actives) 0 at)) where
+module _ (strict : Bool) (s : List ℕ) (h : Head) (at : ℕ) (a : Actives) (ea : a ≡ ranActives (runAt activeList strict s (h .actives) 0 at)) where
   abbrev rest : List ActiveLock → ℕ → Got Held
-  rest xs next = andThen (runAt defunctList s (h .defuncts) 0 next) (λ ys end. cond (ltb end (length s)) (stopped (BadOrder end)) (got (heldOf h xs ys) end))
+  rest xs next = andThen (runAt defunctList strict s (h .defuncts) 0 next) (λ ys end. cond (ltb end (length s)) (stopped (BadOrder end)) (got (heldOf h xs ys) end))
 
-  pub active-failed : No (isDone (a .told)) → listsAt s h at ≡ stopped (a .told)
+  pub active-failed : No (isDone (a .told)) → listsAt strict s h at ≡ stopped (a .told)
   unfolding listsAt andThen
-  active-failed k = ap (λ (g : Got (List ActiveLock)). andThen g rest) (failed (runAt activeList s (h .actives) 0 at) (a .told) (ap (λ (x : Actives). x .told) ea) k)
+  active-failed k = ap (λ (g : Got (List ActiveLock)). andThen g rest) (failed (runAt activeList strict s (h .actives) 0 at) (a .told) (ap (λ (x : Actives). x .told) ea) k)
 
   module _ (k : Yes (isDone (a .told))) where
-    pub actives : Ran activeList (runAt activeList s (h .actives) 0 at) (h .actives) (a .at) (a .locks)
-    actives = ran activeList s (h .actives) 0 at (a .told) (a .at) (a .locks) (ap (λ (x : Actives). x .told) ea) (ap (λ (x : Actives). x .at) ea) (ap (λ (x : Actives). x .locks) ea) k
+    pub actives : Ran activeList (runAt activeList strict s (h .actives) 0 at) (h .actives) (a .at) (a .locks)
+    actives = ran activeList strict s (h .actives) 0 at (a .told) (a .at) (a .locks) (ap (λ (x : Actives). x .told) ea) (ap (λ (x : Actives). x .at) ea) (ap (λ (x : Actives). x .locks) ea) k
 
-    lists-rest : listsAt s h at ≡ rest (actives .list) (a .at)
+    lists-rest : listsAt strict s h at ≡ rest (actives .list) (a .at)
     unfolding listsAt andThen
     lists-rest = ap (λ (g : Got (List ActiveLock)). andThen g rest) (actives .is)
 
-    module _ (d : Defuncts) (ed : d ≡ ranDefuncts (runAt defunctList s (h .defuncts) 0 (a .at))) where
+    module _ (d : Defuncts) (ed : d ≡ ranDefuncts (runAt defunctList strict s (h .defuncts) 0 (a .at))) where
       abbrev end : List DefunctLock → ℕ → Got Held
       end ys n = cond (ltb n (length s)) (stopped (BadOrder n)) (got (heldOf h (actives .list) ys) n)
 
-      pub defunct-failed : No (isDone (d .told)) → listsAt s h at ≡ stopped (d .told)
+      pub defunct-failed : No (isDone (d .told)) → listsAt strict s h at ≡ stopped (d .told)
       unfolding andThen
-      defunct-failed m = lists-rest ∙ ap (λ (g : Got (List DefunctLock)). andThen g end) (failed (runAt defunctList s (h .defuncts) 0 (a .at)) (d .told) (ap (λ (x : Defuncts). x .told) ed) m)
+      defunct-failed m = lists-rest ∙ ap (λ (g : Got (List DefunctLock)). andThen g end) (failed (runAt defunctList strict s (h .defuncts) 0 (a .at)) (d .told) (ap (λ (x : Defuncts). x .told) ed) m)
 
       module _ (m : Yes (isDone (d .told))) where
-        pub defuncts : Ran defunctList (runAt defunctList s (h .defuncts) 0 (a .at)) (h .defuncts) (d .at) (d .locks)
-        defuncts = ran defunctList s (h .defuncts) 0 (a .at) (d .told) (d .at) (d .locks) (ap (λ (x : Defuncts). x .told) ed) (ap (λ (x : Defuncts). x .at) ed) (ap (λ (x : Defuncts). x .locks) ed) m
+        pub defuncts : Ran defunctList (runAt defunctList strict s (h .defuncts) 0 (a .at)) (h .defuncts) (d .at) (d .locks)
+        defuncts = ran defunctList strict s (h .defuncts) 0 (a .at) (d .told) (d .at) (d .locks) (ap (λ (x : Defuncts). x .told) ed) (ap (λ (x : Defuncts). x .at) ed) (ap (λ (x : Defuncts). x .locks) ed) m
 
-        lists-end : listsAt s h at ≡ end (defuncts .list) (d .at)
+        lists-end : listsAt strict s h at ≡ end (defuncts .list) (d .at)
         unfolding andThen
         lists-end = lists-rest ∙ ap (λ (g : Got (List DefunctLock)). andThen g end) (defuncts .is)
 
-        pub extra : d .at < length s → listsAt s h at ≡ stopped (BadOrder (d .at))
+        pub extra : d .at < length s → listsAt strict s h at ≡ stopped (BadOrder (d .at))
         extra q = lists-end ∙ cond-true _ _ _ (lt-ltb _ _ q)
 
         pub all-read : length s ≤ d .at
-            → record { told = Done; spare = record { state = record { revision = h .revision; active = a .locks; actives = h .actives; defunct = d .locks; defuncts = h .defuncts }; expected = h .expected } } ≡ imaged (listsAt s h at)
+            → record { told = Done; spare = record { state = record { revision = h .revision; active = a .locks; actives = h .actives; defunct = d .locks; defuncts = h .defuncts }; expected = h .expected } } ≡ imaged (listsAt strict s h at)
         all-read q =
             (λ i. record { told = Done; spare = record { state = record { revision = h .revision; active = actives .held i; actives = sym (actives .count) i; defunct = defuncts .held i; defuncts = sym (defuncts .count) i }; expected = h .expected } })
             ∙ sym (ap imaged (lists-end ∙ cond-false _ _ _ (le-ltb _ _ q)))
 
--- ---- the first half
-module _ (s : List ℕ) where
-  pub head-read : (h : Head) (next : ℕ) → recordAt wire.head atHead s 0 ≡ got h next → imaged (listsAt s h next) ≡ recordsOf s
-  unfolding recordsOf heldIn andThen
-  head-read h next e = sym (ap (λ (g : Got Head). imaged (andThen g (listsAt s))) e)
+-- ---- the first half: by HEAD's step
+head-takes : (o : Got Head) (h : Head) (n : ℕ) → headStep o ≡ head.Read h n → o ≡ got h n
+head-takes (stopped x) h n e = absurd (let z : _≡_ {A = ℕ} 0 1 = cc in omega arith)
+head-takes (got b m) h n e = let p : b ≡ h = cc in let q : m ≡ n = cc in λ i. got (p i) (q i)
 
-  pub head-failed : (x : Reading) → recordAt wire.head atHead s 0 ≡ stopped x → refusal x ≡ recordsOf s
-  unfolding recordsOf heldIn andThen
-  head-failed x e = sym (ap (λ (g : Got Head). imaged (andThen g (listsAt s))) e)
+head-halts : (o : Got Head) (x : Reading) → headStep o ≡ head.Refused x → o ≡ stopped x
+head-halts (stopped y) x e = let p : y ≡ x = cc in ap stopped p
+head-halts (got h n) x e = absurd (let z : _≡_ {A = ℕ} 0 1 = cc in omega arith)
+
+module _ (strict : Bool) (s : List ℕ) (g : HeadStep) (q : g ≡ headAt s 0) where
+  pub head-fits : (h : Head) (next : ℕ) → g ≡ head.Read h next → (h .actives ≤ activeList .most) × (h .defuncts ≤ defunctList .most)
+  unfolding headAt
+  head-fits h next e = head-counts s 0 next h (head-takes (recordAt wire.head atHead s 0) h next (sym q ∙ e))
+
+  pub head-read : (h : Head) (next : ℕ) → g ≡ head.Read h next → imaged (listsAt strict s h next) ≡ imaged (heldBy strict s)
+  unfolding heldBy andThen headAt
+  head-read h next e = sym (ap (λ (o : Got Head). imaged (andThen o (listsAt strict s))) (head-takes (recordAt wire.head atHead s 0) h next (sym q ∙ e)))
+
+  pub head-failed : (x : Reading) → g ≡ head.Refused x → refusal x ≡ imaged (heldBy strict s)
+  unfolding heldBy andThen headAt
+  head-failed x e = sym (ap (λ (o : Got Head). imaged (andThen o (listsAt strict s))) (head-halts (recordAt wire.head atHead s 0) x (sym q ∙ e)))
 
 -- ---- then the test
 pub tested-not : (i : Imaged) (t : Reading) → No (isDone t) → tested i t ≡ i

@@ -5,6 +5,7 @@ pub mod Halves
 pub mod Writes
 pub mod There
 pub mod Back
+pub mod Papers
 pub mod Trips
 pub mod Ranged
 pub mod Stores

@@ -1,7 +1,7 @@
 -- What is written reads back: a record that stands anywhere, a run of records, the lists of a whole image.
 -- Assumes nothing.
 use mathlib.Core.Path.{_≡_, refl, sym, ap, ap₂, _∙_}
-use mathlib.Core.Bool.{cond}
+use mathlib.Core.Bool.{true, cond}
 use mathlib.Core.List.{List, [], _∷_, _++_, append-assoc, append-nil, List·Memᴰ·head, List·Memᴰ·tail}
 use Prim.Native.Nat.{ℕ, zero, suc, _+_, _*_, _-_, _≤_}
 use native.Mathlib.Nat.{mul-zero}
@@ -32,7 +32,7 @@ use Rattle.records.proofs.Framing.{frame-record, body-in}
 use Rattle.records.proofs.Storing.{length-body}
 use Rattle.image.specs.declared.Reading.{Reading}
 use Rattle.image.specs.declared.Reading.the-variants.{BadField, BadOrder}
-use Rattle.image.specs.Image.{Got, stopped, got, andThen, ofFrame, recordAt, Listed, activeList, defunctList, ahead, runAt, Held, heldOf, listsAt, heldIn, bytesOfOne, bytesOfRun, headOf, imageOf}
+use Rattle.image.specs.Image.{Got, stopped, got, andThen, ofFrame, recordAt, Listed, activeList, defunctList, ahead, runAt, Held, heldOf, listsAt, heldBy, heldIn, bytesOfOne, bytesOfRun, headOf, imageOf}
 use Rattle.image.proofs.Writes.{Plain, head-plain, active-plain, defunct-plain, length-whole, length-run}
 
 -- ---- a record
@@ -57,10 +57,10 @@ module _ {R : Type 0} {k due : ℕ} (c : Codec R) (p : Plain k due c) where
 -- ---- a run
 module _ {R : Type 0} (e : Listed R) (p : Plain (e .kind) (e .place) (e .codec)) where
   abbrev following : List ℕ → ℕ → ℕ → ℕ → R → ℕ → Got (List R)
-  following s n low at r next = cond (ltb (e .id r) low) (stopped (BadOrder at)) (ahead e r (runAt e s n (suc (e .id r)) next))
+  following s n low at r next = cond (ltb (e .id r) low) (stopped (BadOrder at)) (ahead e r (runAt e true s n (suc (e .id r)) next))
 
   pub run-there : (l : List R) (low : ℕ) → ((r : R) → Mem r l → Well (e .codec) r) → Yes (from (e .id) low l) → (pre post : List ℕ) (at : ℕ) → length pre ≡ at
-      → runAt e (pre ++ (bytesOfRun e l ++ post)) (length l) low at ≡ got l (at + length l * (total (e .codec .layout) + 4))
+      → runAt e true (pre ++ (bytesOfRun e l ++ post)) (length l) low at ≡ got l (at + length l * (total (e .codec .layout) + 4))
   unfolding runAt bytesOfAll andThen
   run-there [] low w t pre post at q = ap (got []) (let z : at ≡ at + 0 * (total (e .codec .layout) + 4) = omega arith in z)
   run-there (r ∷ rs) low w t pre post at q =
@@ -72,8 +72,8 @@ module _ {R : Type 0} (e : Listed R) (p : Plain (e .kind) (e .place) (e .codec))
       let front : length (pre ++ one) ≡ at + size = length-append pre one ∙ omega (arith, length-whole (e .codec) p r) in
       let head : recordAt (e .codec) (e .place) s at ≡ got r (at + size) =
       ap (λ (x : List ℕ). recordAt (e .codec) (e .place) x at) here ∙ record-there (e .codec) p r (w r (List·Memᴰ·head refl)) pre (bytesOfRun e rs ++ post) at q in
-      let others : runAt e s (length rs) (suc (e .id r)) (at + size) ≡ got rs (at + size + length rs * size) =
-      ap (λ (x : List ℕ). runAt e x (length rs) (suc (e .id r)) (at + size)) moved
+      let others : runAt e true s (length rs) (suc (e .id r)) (at + size) ≡ got rs (at + size + length rs * size) =
+      ap (λ (x : List ℕ). runAt e true x (length rs) (suc (e .id r)) (at + size)) moved
       ∙ run-there rs (suc (e .id r)) (λ x m. w x (List·Memᴰ·tail m)) (rest (e .id) low r rs t) (pre ++ one) post (at + size) front in
       ap (λ (g : Got R). andThen g (following s (length rs) low at)) head
       ∙ cond-false _ _ _ (le-ltb (e .id r) low (from→ (e .id) low {l = r ∷ rs} t (List·Memᴰ·head refl)))
@@ -110,12 +110,12 @@ module _ (m : Model) (n : ℕ) (w : WellHeld m n) where
   head-there : recordAt wire.head atHead s 0 ≡ got (headOf m n) 20
   head-there = record-there wire.head head-plain (headOf m n) (w .head) [] (a ++ d) 0 refl
 
-  active-there : runAt activeList s (length (m .active)) 0 20 ≡ got (m .active) second
+  active-there : runAt activeList true s (length (m .active)) 0 20 ≡ got (m .active) second
   active-there = run-there activeList active-plain (m .active) 0 (w .active) (w .rises) h d 20 (length-whole wire.head head-plain (headOf m n))
 
-  defunct-there : runAt defunctList s (length (m .defunct)) 0 second ≡ got (m .defunct) end
+  defunct-there : runAt defunctList true s (length (m .defunct)) 0 second ≡ got (m .defunct) end
   defunct-there =
-      ap (λ (x : List ℕ). runAt defunctList x (length (m .defunct)) 0 second) (let z : s ≡ (h ++ a) ++ (d ++ []) = sym (append-assoc h a d) ∙ ap (λ (x : List ℕ). (h ++ a) ++ x) (sym (append-nil d)) in z)
+      ap (λ (x : List ℕ). runAt defunctList true x (length (m .defunct)) 0 second) (let z : s ≡ (h ++ a) ++ (d ++ []) = sym (append-assoc h a d) ∙ ap (λ (x : List ℕ). (h ++ a) ++ x) (sym (append-nil d)) in z)
       ∙ run-there defunctList defunct-plain (m .defunct) 0 (w .defunct) (w .climbs) (h ++ a) [] second
       (length-append h a ∙ omega (arith, length-whole wire.head head-plain (headOf m n), length-run activeList active-plain (m .active)))
 
@@ -126,9 +126,9 @@ module _ (m : Model) (n : ℕ) (w : WellHeld m n) where
   last xs ys e = cond (ltb e (length s)) (stopped (BadOrder e)) (got (heldOf (headOf m n) xs ys) e)
 
   pub held-there : heldIn (imageOf m n) ≡ got (record { model = m; expected = n }) end
-  unfolding heldIn listsAt imageOf andThen
+  unfolding heldBy listsAt imageOf andThen
   held-there =
-      ap (λ (g : Got Head). andThen g (listsAt s)) head-there
-      ∙ ap (λ (g : Got (List ActiveLock)). andThen g (λ xs next. andThen (runAt defunctList s (length (m .defunct)) 0 next) (last xs))) active-there
+      ap (λ (g : Got Head). andThen g (listsAt true s)) head-there
+      ∙ ap (λ (g : Got (List ActiveLock)). andThen g (λ xs next. andThen (runAt defunctList true s (length (m .defunct)) 0 next) (last xs))) active-there
       ∙ ap (λ (g : Got (List DefunctLock)). andThen g (last (m .active))) defunct-there
       ∙ cond-false _ _ _ (le-ltb end (length s) (omega (arith, ends)))

@@ -28,19 +28,20 @@ use Rattle.records.specs.Codecs.{Codec}
 use Rattle.records.specs.Wire as wire
 use Rattle.records.proofs.Numbers.{Bytes}
 use Rattle.records.proofs.Codecs.{Well}
-use Rattle.records.proofs.Wire.{lock-neat, active-neat, defunct-neat}
+use Rattle.records.proofs.Wire.{lock-neat, active-neat, defunct-neat, head-faithful, active-faithful, defunct-faithful}
 use Rattle.image.specs.declared.Spare.{Spare}
 use Rattle.image.specs.declared.Imaged.{Imaged}
 use Rattle.image.specs.declared.Reading.{Reading}
 use Rattle.image.specs.declared.Reading.the-variants.{Done, Torn, BadKind, BadField, BadOrder, UnsoundState}
 use Rattle.image.specs.declared.Writing.{Writing}
 use Rattle.image.specs.declared.Writing.the-variants as W
-use Rattle.image.specs.Image.{Got, stopped, got, Held, heldIn, spareOf, noSpare, refusal, imaged, recordsOf, judged, tested, readOn, headOf, imageOf, Written, done, fitted, writtenBy, writeOn, readingPaper, writingPaper}
+use Rattle.image.specs.Image.{Got, stopped, got, Held, heldIn, spareOf, noSpare, refusal, imaged, recordsOf, judged, tested, readOn, headOf, imageOf, Written, done, fitted, writtenBy, writeOn, readingPaper}
 use Rattle.image.specs.Ranges.{InTypes}
 use Rattle.image.specs.Code.{isDone}
 use Rattle.image.proofs.Halves.{held-fault, tested-not}
 use Rattle.image.proofs.There.{WellHeld, held-there}
 use Rattle.image.proofs.Back.{held-back}
+use Rattle.image.proofs.Papers.{reading-one}
 
 -- ---- the records of a sound state are right: "parts that don't apply zero" is what a record asks
 lock-right : (l : Lock) → Yes (neatL l) → Yes (wire.lockStart .right (wire.lockStart .numbers l))
@@ -73,9 +74,10 @@ module _ (sp : Spare) (r : InTypes sp) (q : brokenRule (sp .state) ≡ Sound) wh
             record {
               fit = (r .revision, (r .expected, (omega arith, (omega arith, tt))));
               right = and-i _ _ (le-leb (length (m .active)) 64 na) (le-leb (length (m .defunct)) 128 nd);
+              same = head-faithful (headOf m (sp .expected));
             };
-        active = λ a i. record { fit = r .active a (mem-take (sp .state .actives) (sp .state .active) i); right = active-right a (all→ neatA (and-l _ _ (f .tidy)) i) };
-        defunct = λ d i. record { fit = r .defunct d (mem-take (sp .state .defuncts) (sp .state .defunct) i); right = defunct-right d (all→ neatD (and-r _ _ (f .tidy)) i) };
+        active = λ a i. record { fit = r .active a (mem-take (sp .state .actives) (sp .state .active) i); right = active-right a (all→ neatA (and-l _ _ (f .tidy)) i); same = active-faithful a };
+        defunct = λ d i. record { fit = r .defunct d (mem-take (sp .state .defuncts) (sp .state .defunct) i); right = defunct-right d (all→ neatD (and-r _ _ (f .tidy)) i); same = defunct-faithful d };
         rises = and-l _ _ (f .order);
         climbs = and-r _ _ (f .order);
       }
@@ -122,7 +124,7 @@ module _ (s : List ℕ) (sp : Spare) where
 
   accepted-by : (g : Got Held) → heldIn s ≡ g → tested (imaged g) (imaged g .told) ≡ record { told = Done; spare = sp } → Accepted s sp
   accepted-by (stopped x) q e =
-      let k = held-fault s x q in
+      let k = held-fault true s x q in
       absurd (against k (ap isDone (ap (λ (i : Imaged). i .told) (sym (tested-not (refusal x) x k) ∙ e))))
   accepted-by (got h n) q e = let w = done-by h (brokenRule (stateOf (h .model))) refl e in record { held = h; end = n; is = q; spare = w .0; sound = w .1 }
 
@@ -137,7 +139,7 @@ module _ (s : List ℕ) (sp : Spare) where
         let a = accepted e in
         ap (λ (z : Spare). imageOf (modelOf (z .state)) (z .expected)) (a .spare)
         ∙ ap (λ (m : Model). imageOf m (a .held .expected)) (model-of-state (a .held .model))
-        ∙ held-back s y (a .held) (a .end) (a .is) .0
+        ∙ held-back true s y (a .held) (a .end) (a .is) .0
 
     -- into any buffer with room for it
     pub write-what-was-read : (out : List ℕ) → length s ≤ length out → writeOn sp out ≡ done (W.Done (length s)) (s ++ drop (length s) out)
@@ -156,36 +158,6 @@ one-image sp sp′ r r′ q q′ e = ap (λ (i : Imaged). i .spare) (sym (read-w
 pub one-reading : (s s′ : List ℕ) → Bytes s → Bytes s′ → (sp : Spare) → readOn s ≡ record { told = Done; spare = sp } → readOn s′ ≡ record { told = Done; spare = sp } → s ≡ s′
 one-reading s s′ y y′ sp e e′ = sym (write-read s sp y e) ∙ write-read s′ sp y′ e′
 
--- ---- on paper: two answers with one number and one list of values are one
-ofReading : List ℕ → Reading
-ofReading v =
-    cond (eqb (getD v 0 0) 0) Done (cond (eqb (getD v 0 0) 12) (UnsoundState (getD v 1 0)) (cond (eqb (getD v 0 0) 17) (Torn (getD v 1 0))
-    (cond (eqb (getD v 0 0) 18) (BadKind (getD v 1 0)) (cond (eqb (getD v 0 0) 19) (BadField (getD v 1 0)) (BadOrder (getD v 1 0))))))
-
-of-reading : (a : Reading) → ofReading (readingPaper a) ≡ a
-unfolding ofReading
-of-reading Done = refl
-of-reading (Torn at) = refl
-of-reading (BadKind at) = refl
-of-reading (BadField at) = refl
-of-reading (BadOrder at) = refl
-of-reading (UnsoundState rule) = refl
-
-pub reading-one : (a b : Reading) → readingPaper a ≡ readingPaper b → a ≡ b
-reading-one a b e = sym (of-reading a) ∙ ap ofReading e ∙ of-reading b
-
-ofWriting : List ℕ → Writing
-ofWriting v = cond (eqb (getD v 0 0) 0) (W.Done (getD v 1 0)) (cond (eqb (getD v 0 0) 12) (W.UnsoundState (getD v 1 0)) (W.ShortOutput (getD v 1 0)))
-
-of-writing : (a : Writing) → ofWriting (writingPaper a) ≡ a
-unfolding ofWriting
-of-writing (W.Done bytes) = refl
-of-writing (W.UnsoundState rule) = refl
-of-writing (W.ShortOutput bytes) = refl
-
-pub writing-one : (a b : Writing) → writingPaper a ≡ writingPaper b → a ≡ b
-writing-one a b e = sym (of-writing a) ∙ ap ofWriting e ∙ of-writing b
-
 -- ---- every byte string gets exactly one answer, and a refusal no spare
 pub one-answer : (s : List ℕ) → (a : Reading) × (readOn s .told ≡ a) × ((b : Reading) → readingPaper (readOn s .told) ≡ readingPaper b → b ≡ a)
 one-answer s = (readOn s .told, refl, λ b e. reading-one b (readOn s .told) (sym e))
@@ -199,5 +171,5 @@ unfolding readOn recordsOf
 no-spare s k = go (heldIn s) refl k
   where
     go : (g : Got Held) → heldIn s ≡ g → (tested (imaged g) (imaged g .told) .told ≡ Done → ⊥) → tested (imaged g) (imaged g .told) .spare ≡ noSpare
-    go (stopped x) q f = ap (λ (i : Imaged). i .spare) (tested-not (refusal x) x (held-fault s x q))
+    go (stopped x) q f = ap (λ (i : Imaged). i .spare) (tested-not (refusal x) x (held-fault true s x q))
     go (got h n) q f = judged-empty (record { told = Done; spare = spareOf h }) (brokenRule (stateOf (h .model))) refl f

@@ -2,14 +2,17 @@
 use Prim.Native.Nat.{ℕ}
 use mathlib.Core.Bool.{Bool, true, false}
 use mathlib.Core.List.{List, []}
+use lib.Dec.{ltb}
 use Rattle.lists.specs.Places.{inPlaces}
+use Rattle.ids.specs.declared.LockId.{LockId}
+use Rattle.ids.specs.Order.{key}
 use Rattle.state.specs.declared.ActiveLock.{ActiveLock}
 use Rattle.state.specs.declared.DefunctLock.{DefunctLock}
 use Rattle.image.specs.declared.Reading.{Reading}
 use Rattle.image.specs.declared.Reading.the-variants.{Done, Torn, BadKind, BadField, BadOrder, UnsoundState}
 use Rattle.image.specs.declared.read.Actives.{Actives}
 use Rattle.image.specs.declared.read.Defuncts.{Defuncts}
-use Rattle.image.specs.Image.{Got, stopped, got, Listed, activeList, defunctList}
+use Rattle.image.specs.Image.{Got, stopped, got, Listed, activeList, defunctList, lowAfter}
 
 abbrev pub isDone : Reading → Bool
 isDone Done = true
@@ -18,6 +21,10 @@ isDone (BadKind x) = false
 isDone (BadField x) = false
 isDone (BadOrder x) = false
 isDone (UnsoundState x) = false
+
+-- the id b after the id a
+unfoldable pub outOfOrder : Bool → LockId → LockId → Bool
+outOfOrder strict a b = ltb (key b) (lowAfter strict (key a))
 
 -- a run in an array: blanks where it was refused
 abbrev pub toldOf : {A : Type 0} → Got A → Reading

@@ -5,6 +5,7 @@ use mathlib.Core.Bool.{Bool, true, false, cond}
 use mathlib.Core.List.{List, [], _∷_, _++_}
 use lib.ListN.{length, drop}
 use lib.Dec.{ltb}
+use Rattle.lists.specs.Papers.{Paper, paper}
 use Rattle.state.specs.declared.ActiveLock.{ActiveLock}
 use Rattle.state.specs.declared.DefunctLock.{DefunctLock}
 use Rattle.state.specs.Locks.{akey, dkey, blankActive, blankDefunct}
@@ -65,17 +66,22 @@ activeList = record { kind = 2; place = atActive; codec = wire.active; id = akey
 abbrev pub defunctList : Listed DefunctLock
 defunctList = record { kind = 3; place = atDefunct; codec = wire.defunct; id = dkey; most = 128; blank = blankDefunct }
 
+-- the lowest id that may follow k: the next one where ids strictly ascend, k itself where they only must not fall
+abbrev pub lowAfter : Bool → ℕ → ℕ
+lowAfter strict k = cond strict (suc k) k
+
 module _ {R : Type 0} (e : Listed R) where
   abbrev pub ahead : R → Got (List R) → Got (List R)
   ahead r (stopped x) = stopped x
   ahead r (got rs n) = got (r ∷ rs) n
 
-  -- n records from `at` on, the first with an id from low on, each with a greater id than the one before it
-  unfoldable pub runAt : List ℕ → ℕ → ℕ → ℕ → Got (List R)
-  runAt s zero low at = got [] at
-  runAt s (suc n) low at =
-      andThen (recordAt (e .codec) (e .place) s at)
-      (λ r next. cond (ltb (e .id r) low) (stopped (BadOrder at)) (ahead r (runAt s n (suc (e .id r)) next)))
+  module _ (strict : Bool) where
+    -- n records from `at` on, the first with an id from low on, each with an id that may follow the one before it
+    unfoldable pub runAt : List ℕ → ℕ → ℕ → ℕ → Got (List R)
+    runAt s zero low at = got [] at
+    runAt s (suc n) low at =
+        andThen (recordAt (e .codec) (e .place) s at)
+        (λ r next. cond (ltb (e .id r) low) (stopped (BadOrder at)) (ahead r (runAt s n (lowAfter strict (e .id r)) next)))
 
 -- ---- the whole image: its lists and the expected number
 pub record Held : Type 0 where
@@ -86,14 +92,18 @@ abbrev pub heldOf : Head → List ActiveLock → List DefunctLock → Held
 heldOf h xs ys = record { model = record { revision = h .revision; active = xs; defunct = ys }; expected = h .expected }
 
 -- the lists that HEAD counts, from `at` on, and nothing after them
-unfoldable pub listsAt : List ℕ → Head → ℕ → Got Held
-listsAt s h at =
-    andThen (runAt activeList s (h .actives) 0 at)
-    (λ xs next. andThen (runAt defunctList s (h .defuncts) 0 next)
+unfoldable pub listsAt : Bool → List ℕ → Head → ℕ → Got Held
+listsAt strict s h at =
+    andThen (runAt activeList strict s (h .actives) 0 at)
+    (λ xs next. andThen (runAt defunctList strict s (h .defuncts) 0 next)
     (λ ys end. cond (ltb end (length s)) (stopped (BadOrder end)) (got (heldOf h xs ys) end)))
 
-unfoldable pub heldIn : List ℕ → Got Held
-heldIn s = andThen (recordAt wire.head atHead s 0) (listsAt s)
+unfoldable pub heldBy : Bool → List ℕ → Got Held
+heldBy strict s = andThen (recordAt wire.head atHead s 0) (listsAt strict s)
+
+-- an image's ids strictly ascend
+abbrev pub heldIn : List ℕ → Got Held
+heldIn s = heldBy true s
 
 abbrev pub spareOf : Held → Spare
 spareOf h = record { state = stateOf (h .model); expected = h .expected }
@@ -162,16 +172,16 @@ writtenBy (Broken n) b out = done (W.UnsoundState n) out
 unfoldable pub writeOn : Spare → List ℕ → Written
 writeOn sp out = writtenBy (brokenRule (sp .state)) (imageOf (modelOf (sp .state)) (sp .expected)) out
 
--- ---- 01's number of each case and its values
-abbrev pub readingPaper : Reading → List ℕ
-readingPaper Done = 0 ∷ []
-readingPaper (Torn at) = 17 ∷ at ∷ []
-readingPaper (BadKind at) = 18 ∷ at ∷ []
-readingPaper (BadField at) = 19 ∷ at ∷ []
-readingPaper (BadOrder at) = 20 ∷ at ∷ []
-readingPaper (UnsoundState rule) = 12 ∷ rule ∷ []
+-- ---- on paper: "17..20 Torn, BadKind, BadField, BadOrder (added), offset"; "21 ShortOutput (added), bytes needed"
+unfoldable pub readingPaper : Reading → Paper
+readingPaper Done = paper 0 []
+readingPaper (Torn at) = paper 17 (at ∷ [])
+readingPaper (BadKind at) = paper 18 (at ∷ [])
+readingPaper (BadField at) = paper 19 (at ∷ [])
+readingPaper (BadOrder at) = paper 20 (at ∷ [])
+readingPaper (UnsoundState rule) = paper 12 (rule ∷ [])
 
-abbrev pub writingPaper : Writing → List ℕ
-writingPaper (W.Done bytes) = 0 ∷ bytes ∷ []
-writingPaper (W.UnsoundState rule) = 12 ∷ rule ∷ []
-writingPaper (W.ShortOutput bytes) = 21 ∷ bytes ∷ []
+unfoldable pub writingPaper : Writing → Paper
+writingPaper (W.Done bytes) = paper 0 (bytes ∷ [])
+writingPaper (W.UnsoundState rule) = paper 12 (rule ∷ [])
+writingPaper (W.ShortOutput bytes) = paper 21 (bytes ∷ [])

@@ -1,5 +1,6 @@
 // Images: a whole state as records, read and written.
 // SPDX-License-Identifier: Apache-2.0
+use records::layout;
 use state::LockState;
 
 mod ranges;
@@ -7,15 +8,10 @@ pub mod read;
 pub mod reader;
 pub mod write;
 
-// Bytes of a HEAD, an ACTIVE and a DEFUNCT record with its length.
-pub const HEAD: usize = 20;
-
-pub const ACTIVE: usize = 91;
-
-pub const DEFUNCT: usize = 104;
-
 // Bytes of the longest image.
-pub const LONGEST: usize = HEAD + LockState::ACTIVE * ACTIVE + LockState::DEFUNCT * DEFUNCT;
+pub const LONGEST: usize = layout::HEAD_RECORD
+    + LockState::ACTIVE * layout::ACTIVE_RECORD
+    + LockState::DEFUNCT * layout::DEFUNCT_RECORD;
 
 // A spare adapter: its state, and the sequence number that is due next in the feed.
 pub struct Spare {

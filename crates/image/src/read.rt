@@ -4,8 +4,9 @@ use crate::Imaged;
 use crate::Reading;
 use crate::Spare;
 use crate::reader;
-use crate::reader::Due;
-use crate::reader::Step;
+use crate::reader::ActiveStep;
+use crate::reader::DefunctStep;
+use crate::reader::HeadStep;
 use ids::LockId;
 use records::bodies::Head;
 use rules::Verdict;
@@ -14,8 +15,8 @@ use state::DefunctLock;
 use state::LockState;
 ghost use mathlib.Core.Path.{_≡_};
 ghost use Prim.Native.Nat.{_≤_};
-ghost use Rattle.image.specs.Image.{stopped, imaged, listsAt, activeList, defunctList, runAt, refusal, recordsOf, readOn};
-ghost use Rattle.image.specs.Code.{isDone, ranActives, ranDefuncts};
+ghost use Rattle.image.specs.Image.{stopped, imaged, listsAt, activeList, defunctList, runAt, refusal, heldBy, recordsOf, readOn};
+ghost use Rattle.image.specs.Code.{isDone, outOfOrder, ranActives, ranDefuncts};
 
 // A run of ACTIVE records: the locks in their places, and the place after the run.
 struct Actives {
@@ -75,37 +76,38 @@ fn no_defuncts(why: Reading) -> Defuncts
     }
 }
 
-fn actives_at(image: &[u8], from: usize, n: usize) -> Actives
-    requires { ⌜ n ≤ 64 ⌝ }
-    ensures { λ r. ⌜ r ≡ ranActives (runAt activeList (now (image .entry)) n 0 from) ⌝ }
+// Whether id may not follow last: where ids needn't strictly ascend, it still must not fall.
+fn out_of_order(strict: bool, last: LockId, id: LockId) -> bool
+    ensures { λ r. ⌜ r ≡ outOfOrder strict last id ⌝ }
+{
+    if strict {
+        return !ids::less(last, id);
+    }
+    ids::less(id, last)
+}
+
+fn actives_at(image: &[u8], from: usize, n: usize, strict: bool) -> Actives
+    requires { ⌜ n ≤ activeList .most ⌝ }
+    ensures { λ r. ⌜ r ≡ ranActives (runAt activeList strict (now (image .entry)) n 0 from) ⌝ }
 {
     let mut locks = [state::blank_active(); LockState::ACTIVE];
     let mut last = LockId { hi: 0, lo: 0 };
     let mut at = from;
     let mut i: usize = 0;
     while i < n {
-        let got = reader::step_from(image, at, Due::Active);
-        let step = got.step;
-        match step {
-            Step::Active(a) => {
+        match reader::active_from(image, at) {
+            ActiveStep::Read(a, next) => {
                 let id = a.lock.id;
-                if (0 < i) & !ids::less(last, id) {
+                if (0 < i) & out_of_order(strict, last, id) {
                     return no_actives(Reading::BadOrder(at));
                 }
                 locks[i] = a;
                 last = id;
-                at = got.at;
+                at = next;
                 i += 1;
             }
-            Step::Refused(why) => {
+            ActiveStep::Refused(why) => {
                 return no_actives(why);
-            }
-            // Not due here.
-            Step::Head(_) => {
-                return no_actives(Reading::BadKind(at));
-            }
-            Step::Defunct(_) => {
-                return no_actives(Reading::BadKind(at));
             }
         }
     }
@@ -116,37 +118,28 @@ fn actives_at(image: &[u8], from: usize, n: usize) -> Actives
     }
 }
 
-fn defuncts_at(image: &[u8], from: usize, n: usize) -> Defuncts
-    requires { ⌜ n ≤ 128 ⌝ }
-    ensures { λ r. ⌜ r ≡ ranDefuncts (runAt defunctList (now (image .entry)) n 0 from) ⌝ }
+fn defuncts_at(image: &[u8], from: usize, n: usize, strict: bool) -> Defuncts
+    requires { ⌜ n ≤ defunctList .most ⌝ }
+    ensures { λ r. ⌜ r ≡ ranDefuncts (runAt defunctList strict (now (image .entry)) n 0 from) ⌝ }
 {
     let mut locks = [state::blank_defunct(); LockState::DEFUNCT];
     let mut last = LockId { hi: 0, lo: 0 };
     let mut at = from;
     let mut i: usize = 0;
     while i < n {
-        let got = reader::step_from(image, at, Due::Defunct);
-        let step = got.step;
-        match step {
-            Step::Defunct(d) => {
+        match reader::defunct_from(image, at) {
+            DefunctStep::Read(d, next) => {
                 let id = d.lock.id;
-                if (0 < i) & !ids::less(last, id) {
+                if (0 < i) & out_of_order(strict, last, id) {
                     return no_defuncts(Reading::BadOrder(at));
                 }
                 locks[i] = d;
                 last = id;
-                at = got.at;
+                at = next;
                 i += 1;
             }
-            Step::Refused(why) => {
+            DefunctStep::Refused(why) => {
                 return no_defuncts(why);
-            }
-            // Not due here.
-            Step::Head(_) => {
-                return no_defuncts(Reading::BadKind(at));
-            }
-            Step::Active(_) => {
-                return no_defuncts(Reading::BadKind(at));
             }
         }
     }
@@ -158,18 +151,18 @@ fn defuncts_at(image: &[u8], from: usize, n: usize) -> Defuncts
 }
 
 // Both lists, from the place after HEAD on.
-fn lists_at(image: &[u8], h: Head, at: usize) -> Imaged
-    requires { ⌜ (h .actives ≤ 64) × (h .defuncts ≤ 128) ⌝ }
-    ensures { λ r. ⌜ r ≡ imaged (listsAt (now (image .entry)) h at) ⌝ }
+fn lists_at(image: &[u8], h: Head, at: usize, strict: bool) -> Imaged
+    requires { ⌜ (h .actives ≤ activeList .most) × (h .defuncts ≤ defunctList .most) ⌝ }
+    ensures { λ r. ⌜ r ≡ imaged (listsAt strict (now (image .entry)) h at) ⌝ }
 {
     let actives = h.actives as usize;
     let defuncts = h.defuncts as usize;
-    let a = actives_at(image, at, actives);
+    let a = actives_at(image, at, actives, strict);
     let told = a.told;
     if !is_done(told) {
         return refused(told);
     }
-    let d = defuncts_at(image, a.at, defuncts);
+    let d = defuncts_at(image, a.at, defuncts, strict);
     let why = d.told;
     if !is_done(why) {
         return refused(why);
@@ -195,19 +188,21 @@ fn lists_at(image: &[u8], h: Head, at: usize) -> Imaged
     }
 }
 
+// The records alone, their ids in strict order or only not falling.
+fn records_by(image: &[u8], strict: bool) -> Imaged
+    ensures { λ r. ⌜ r ≡ imaged (heldBy strict (now (image .entry))) ⌝ }
+{
+    match reader::head_from(image, 0) {
+        HeadStep::Read(h, at) => lists_at(image, h, at, strict),
+        HeadStep::Refused(why) => refused(why),
+    }
+}
+
 // The first half: the records alone, without the sound-state test.
 pub fn read_records(image: &[u8]) -> Imaged
     ensures { λ r. ⌜ r ≡ recordsOf (now (image .entry)) ⌝ }
 {
-    let got = reader::step_from(image, 0, Due::Head);
-    let step = got.step;
-    match step {
-        Step::Head(h) => lists_at(image, h, got.at),
-        Step::Refused(why) => refused(why),
-        // Not due here.
-        Step::Active(_) => refused(Reading::BadKind(0)),
-        Step::Defunct(_) => refused(Reading::BadKind(0)),
-    }
+    records_by(image, true)
 }
 
 pub fn read_image(image: &[u8]) -> Imaged

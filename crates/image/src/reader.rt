@@ -1,4 +1,5 @@
-// One record of an image at a time: what stands at a place, and a reader that keeps the image and its place.
+// One record of an image at a time: where the next one's body stands, a reader that keeps the image and its place, and what
+// the record says, a function for each kind.
 // SPDX-License-Identifier: Apache-2.0
 use crate::Reading;
 use records::bodies;
@@ -12,7 +13,7 @@ use records::kinds;
 use state::ActiveLock;
 use state::DefunctLock;
 ghost use mathlib.Core.Path.{_≡_};
-ghost use Rattle.image.specs.Steps.{placeOf, stay, bodyStep, stepOf};
+ghost use Rattle.image.specs.Steps.{placeOf, stay, stepOf, headAt, activeAt, defunctAt};
 ghost use Rattle.image.specs.Held.{startOf, movedOf};
 
 // Which record is due.
@@ -22,10 +23,9 @@ pub enum Due {
     Defunct,
 }
 
+// A body, from its first byte to the place past its last.
 pub enum Step {
-    Head(Head),
-    Active(ActiveLock),
-    Defunct(DefunctLock),
+    Body(usize, usize),
     Refused(Reading),
 }
 
@@ -54,35 +54,6 @@ fn place_of(due: Due) -> u8
     }
 }
 
-// The body b of a record that starts at `at` and ends before `next`.
-fn body_of(b: &[u8], due: Due, at: usize, next: usize) -> Stepped
-    ensures { λ r. ⌜ r ≡ bodyStep (now (b .entry)) due at next ⌝ }
-{
-    match due {
-        Due::Head => match bodies::decode_head(b) {
-            HeadRead::Good(h) => Stepped {
-                step: Step::Head(h),
-                at: next,
-            },
-            HeadRead::BadField => refused(Reading::BadField(at), at),
-        },
-        Due::Active => match bodies::decode_active(b) {
-            ActiveRead::Good(a) => Stepped {
-                step: Step::Active(a),
-                at: next,
-            },
-            ActiveRead::BadField => refused(Reading::BadField(at), at),
-        },
-        Due::Defunct => match bodies::decode_defunct(b) {
-            DefunctRead::Good(d) => Stepped {
-                step: Step::Defunct(d),
-                at: next,
-            },
-            DefunctRead::BadField => refused(Reading::BadField(at), at),
-        },
-    }
-}
-
 fn record_at(image: &[u8], at: usize, due: Due) -> Stepped
     ensures { λ r. ⌜ r ≡ stepOf (now (image .entry)) at due ⌝ }
 {
@@ -93,7 +64,10 @@ fn record_at(image: &[u8], at: usize, due: Due) -> Stepped
         Framed::Record(f) => {
             let start = f.start;
             let end = start + f.size;
-            body_of(&image[start..end], due, at, f.next)
+            Stepped {
+                step: Step::Body(start, end),
+                at: f.next,
+            }
         }
     }
 }
@@ -138,5 +112,63 @@ pub fn step_from(image: &[u8], at: usize, due: Due) -> Stepped
     Stepped {
         step,
         at: m.reader.at,
+    }
+}
+
+// A record of each kind that was due, and the place after it.
+pub enum HeadStep {
+    Read(Head, usize),
+    Refused(Reading),
+}
+
+pub enum ActiveStep {
+    Read(ActiveLock, usize),
+    Refused(Reading),
+}
+
+pub enum DefunctStep {
+    Read(DefunctLock, usize),
+    Refused(Reading),
+}
+
+pub fn head_from(image: &[u8], at: usize) -> HeadStep
+    ensures { λ r. ⌜ r ≡ headAt (now (image .entry)) at ⌝ }
+{
+    let got = step_from(image, at, Due::Head);
+    let step = got.step;
+    match step {
+        Step::Body(start, end) => match bodies::decode_head(&image[start..end]) {
+            HeadRead::Good(h) => HeadStep::Read(h, got.at),
+            HeadRead::BadField => HeadStep::Refused(Reading::BadField(at)),
+        },
+        Step::Refused(why) => HeadStep::Refused(why),
+    }
+}
+
+pub fn active_from(image: &[u8], at: usize) -> ActiveStep
+    ensures { λ r. ⌜ r ≡ activeAt (now (image .entry)) at ⌝ }
+{
+    let got = step_from(image, at, Due::Active);
+    let step = got.step;
+    match step {
+        Step::Body(start, end) => match bodies::decode_active(&image[start..end]) {
+            ActiveRead::Good(a) => ActiveStep::Read(a, got.at),
+            ActiveRead::BadField => ActiveStep::Refused(Reading::BadField(at)),
+        },
+        Step::Refused(why) => ActiveStep::Refused(why),
+    }
+}
+
+pub fn defunct_from(image: &[u8], at: usize) -> DefunctStep
+    ensures { λ r. ⌜ r ≡ defunctAt (now (image .entry)) at ⌝ }
+{
+    let got = step_from(image, at, Due::Defunct);
+    let step = got.step;
+    match step {
+        Step::Body(start, end) => match bodies::decode_defunct(&image[start..end]) {
+            DefunctRead::Good(d) => DefunctStep::Read(d, got.at),
+            DefunctRead::BadField => DefunctStep::Refused(Reading::BadField(at)),
+        },
+        Step::Refused(why) => DefunctStep::Refused(why),
     }
 }

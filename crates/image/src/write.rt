@@ -3,6 +3,7 @@
 use crate::Spare;
 use crate::Writing;
 use records::bodies::Head;
+use records::layout;
 use records::writing;
 use rules::Verdict;
 use state::ActiveLock;
@@ -14,29 +15,30 @@ ghost use mathlib.Core.Bool.{cond};
 ghost use lib.Dec.{ltb};
 ghost use lib.ListN.{length, take};
 ghost use Rattle.state.specs.Model.{modelOf};
+ghost use Rattle.records.specs.Layouts.{total};
 ghost use Rattle.records.specs.Numbers.{splice, stored};
 ghost use Rattle.image.specs.Image.{activeList, defunctList, bytesOfRun, imageOf, done, writeOn};
 
 fn put_actives(out: &mut [u8], from: usize, locks: [ActiveLock; LockState::ACTIVE], n: usize)
-    requires { ⌜ (n ≤ 64) × (from + n * 91 ≤ length (now out)) ⌝ }
+    requires { ⌜ (n ≤ activeList .most) × (from + n * (total (activeList .codec .layout) + 4) ≤ length (now out)) ⌝ }
     ensures { λ r. ⌜ now (out .exit) ≡ splice (now (out .entry)) from (bytesOfRun activeList (take n locks)) ⌝ }
 {
     let mut i: usize = 0;
     while i < n {
         let a = locks[i];
-        writing::put_active(out, from + i * crate::ACTIVE, a);
+        writing::put_active(out, from + i * layout::ACTIVE_RECORD, a);
         i += 1;
     }
 }
 
 fn put_defuncts(out: &mut [u8], from: usize, locks: [DefunctLock; LockState::DEFUNCT], n: usize)
-    requires { ⌜ (n ≤ 128) × (from + n * 104 ≤ length (now out)) ⌝ }
+    requires { ⌜ (n ≤ defunctList .most) × (from + n * (total (defunctList .codec .layout) + 4) ≤ length (now out)) ⌝ }
     ensures { λ r. ⌜ now (out .exit) ≡ splice (now (out .entry)) from (bytesOfRun defunctList (take n locks)) ⌝ }
 {
     let mut i: usize = 0;
     while i < n {
         let d = locks[i];
-        writing::put_defunct(out, from + i * crate::DEFUNCT, d);
+        writing::put_defunct(out, from + i * layout::DEFUNCT_RECORD, d);
         i += 1;
     }
 }
@@ -54,8 +56,8 @@ pub fn write_image(spare: Spare, out: &mut [u8]) -> Writing
     }
     let actives = state.actives;
     let defuncts = state.defuncts;
-    let second = crate::HEAD + actives * crate::ACTIVE;
-    let needed = second + defuncts * crate::DEFUNCT;
+    let second = layout::HEAD_RECORD + actives * layout::ACTIVE_RECORD;
+    let needed = second + defuncts * layout::DEFUNCT_RECORD;
     if out.len() < needed {
         return Writing::ShortOutput(needed);
     }
@@ -67,7 +69,7 @@ pub fn write_image(spare: Spare, out: &mut [u8]) -> Writing
     };
     writing::put_head(out, 0, head);
     let active = state.active;
-    put_actives(out, crate::HEAD, active, actives);
+    put_actives(out, layout::HEAD_RECORD, active, actives);
     let defunct = state.defunct;
     put_defuncts(out, second, defunct, defuncts);
     Writing::Done(needed)
@@ -88,17 +90,17 @@ pub fn image_size(spare: Spare) -> usize
     ensures { λ r. ⌜ r ≡ length (imageOf (modelOf (spare .state)) (spare .expected)) ⌝ }
 {
     let state = spare.state;
-    let actives = at_most(state.actives, 64);
-    let defuncts = at_most(state.defuncts, 128);
-    20 + actives * 91 + defuncts * 104
+    let actives = at_most(state.actives, LockState::ACTIVE);
+    let defuncts = at_most(state.defuncts, LockState::DEFUNCT);
+    layout::HEAD_RECORD + actives * layout::ACTIVE_RECORD + defuncts * layout::DEFUNCT_RECORD
 }
 
 // ACTIVE records of the first n locks, from the buffer's start on. Where they have no room, nothing is stored.
-pub fn store_actives(out: &mut [u8], locks: [ActiveLock; 64], n: usize)
+pub fn store_actives(out: &mut [u8], locks: [ActiveLock; LockState::ACTIVE], n: usize)
     ensures { λ r. ⌜ now (out .exit) ≡ stored (now (out .entry)) 0 (bytesOfRun activeList (take n locks)) ⌝ }
 {
-    let k = at_most(n, 64);
-    if out.len() < k * 91 {
+    let k = at_most(n, LockState::ACTIVE);
+    if out.len() < k * layout::ACTIVE_RECORD {
         return;
     }
     put_actives(out, 0, locks, k);

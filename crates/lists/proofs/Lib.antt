@@ -6,3 +6,4 @@ pub mod Loops
 pub mod Shifts
 pub mod First
 pub mod Further
+pub mod Papers

@@ -7,13 +7,14 @@ use Prim.Native.Nat.{ℕ, zero, suc, _+_, _-_, _≤_, _<_}
 use native.Mathlib.Omega.{arith}
 use native.Mathlib.Decide.{ℕ-discrete}
 use native.Mathlib.Numerals.{add-one}
-use lib.ListN.{length, getD, set, take, drop, length-drop}
+use lib.ListN.{length, getD, set, take, drop, length-append, length-take, length-drop}
 use lib.Seq.{getD-set-same, getD-set-other, getD-take, getD-drop, length-take-le}
 use lib.Dec.{leb}
 use borrow.Author.Tests.{le-leb}
 use Rattle.lists.specs.Tests.{_and_, Yes, No}
 use Rattle.lists.specs.Lists.{all, Mem, from, ascending}
 use Rattle.lists.specs.Below.{allBelow}
+use Rattle.lists.specs.Places.{splice}
 use Rattle.lists.proofs.Tests.{and-i, against, →no, same-test}
 use Rattle.lists.proofs.Lists.{all→, →all, from→, rest}
 use Rattle.lists.proofs.Below.{all-of, all-at, all-no, all-same}
@@ -109,3 +110,8 @@ module _ {A : Type 0} (k : A → ℕ) where
       rw (getD-take n l (i - 1) d (omega arith), getD-take n l i d m) at
           (ascending-at k 0 (take n l) d t (i - 1) i (omega arith) (omega (arith, length-take-le n l h))),
     ))
+
+-- bytes put into a buffer leave its length
+pub length-splice : (s : List ℕ) (at : ℕ) (b : List ℕ) → at + length b ≤ length s → length (splice s at b) ≡ length s
+unfolding splice
+length-splice s at b h = simp (length-append, length-take, length-drop) (omega arith)

@@ -3,8 +3,8 @@
 use mathlib.Core.List.{List, [], _∷_}
 use mathlib.Core.Path.{_≡_, refl}
 use Prim.Native.Nat.{ℕ}
-use Rattle.lookups.specs.Papers.{Paper}
-use Rattle.lookups.proofs.Papers.{pick, one-to-one, valueAt}
+use Rattle.lists.specs.Papers.{Paper}
+use Rattle.lists.proofs.Papers.{pick, one-to-one, valueAt}
 use Rattle.locks.specs.declared.Owner.{Owner}
 use Rattle.locks.specs.declared.Owner.the-variants as owner
 use Rattle.locks.specs.declared.Update.{Update}

@@ -1,4 +1,5 @@
--- Helpers of the code alone: what one pass over the active locks finds, and the judgement on a defunct entry.
+-- What only the contracts of the crate's own functions name: what one pass over the active locks finds, and the judgement
+-- on a defunct entry. A reader need not believe or read any of it; the public contracts are the `..On` definitions alone.
 use mathlib.Core.Bool.{cond}
 use mathlib.Core.List.{List}
 use mathlib.Core.Option.{Option, none, some}

@@ -16,7 +16,7 @@ use Rattle.state.specs.Locks.{isVehicle, isGroup, sameScope, hasIdD}
 use Rattle.state.specs.Model.{modelOf}
 use Rattle.lookups.specs.declared.Truth.{Truth}
 use Rattle.lookups.specs.declared.Truth.the-variants as truth
-use Rattle.lookups.specs.Papers.{Paper, paper}
+use Rattle.lists.specs.Papers.{Paper, paper}
 use Rattle.lookups.specs.Reads.{onSound, onScope}
 use Rattle.operations.specs.declared.answers.Acknowledgement.{Acknowledgement}
 use Rattle.operations.specs.declared.answers.Acknowledgement.the-variants as acknowledgement
@@ -46,10 +46,10 @@ responseOf n =
 -- ---- vehicle_lock_owner_sub, has_non_vehicle_locks
 abbrev pub toldOwner : Option ActiveLock → Owner
 toldOwner none = owner.Nothing
-toldOwner (some a) = owner.Subject (a .lock .subject)
+toldOwner (some lock) = owner.Subject (lock .lock .subject)
 
 unfoldable pub vehicleOwnerOn : LockState → Owner
-vehicleOwnerOn s = onSound s owner.UnsoundState (toldOwner (find (onScope Vehicle) (modelOf s .active)))
+vehicleOwnerOn state = onSound state owner.UnsoundState (toldOwner (find (onScope Vehicle) (modelOf state .active)))
 
 -- nobody, or the subject
 unfoldable pub ownerPaper : Owner → Paper
@@ -58,28 +58,28 @@ ownerPaper owner.Nothing = paper 0 (0 ∷ [])
 ownerPaper (owner.Subject u) = paper 0 (1 ∷ (u ∷ []))
 
 unfoldable pub nonVehicle : ActiveLock → Bool
-nonVehicle a = non (isVehicle (a .lock .scope))
+nonVehicle lock = non (isVehicle (lock .lock .scope))
 
 unfoldable pub hasNonVehicleOn : LockState → Truth
-hasNonVehicleOn s = onSound s truth.UnsoundState (truth.Is (any nonVehicle (modelOf s .active)))
+hasNonVehicleOn state = onSound state truth.UnsoundState (truth.Is (any nonVehicle (modelOf state .active)))
 
 -- ---- prepare_runtime_update: "25, then 24; else the generation (u64, kept outside state and image) rises by 1,
 -- saturating; the revision stays"
 unfoldable pub groupLock : ActiveLock → Bool
-groupLock a = isGroup (a .lock .scope)
+groupLock lock = isGroup (lock .lock .scope)
 
 unfoldable pub ecuLock : ActiveLock → Bool
-ecuLock a = non (isVehicle (a .lock .scope)) and non (isGroup (a .lock .scope))
+ecuLock lock = non (isVehicle (lock .lock .scope)) and non (isGroup (lock .lock .scope))
 
 unfoldable pub raised : ℕ → ℕ
-raised g = cond (eqb g 18446744073709551615) g (g + 1)
+raised generation = cond (eqb generation 18446744073709551615) generation (generation + 1)
 
 unfoldable pub prepareUpdateOn : LockState → ℕ → Update
-prepareUpdateOn s g =
-    onSound s update.UnsoundState
-    (cond (any groupLock (modelOf s .active)) update.FunctionalGroupLocksHeld
-    (cond (any ecuLock (modelOf s .active)) update.EcuLocksHeld
-    (update.Generation (raised g))))
+prepareUpdateOn state generation =
+    onSound state update.UnsoundState
+    (cond (any groupLock (modelOf state .active)) update.FunctionalGroupLocksHeld
+    (cond (any ecuLock (modelOf state .active)) update.EcuLocksHeld
+    (update.Generation (raised generation))))
 
 -- a refusal keeps the generation
 unfoldable pub updatePaper : Update → Paper
@@ -90,7 +90,7 @@ updatePaper (update.Generation g) = paper 0 (g ∷ [])
 
 -- ---- delete_defunct: "absent or another scope gives false; then 26; then as acknowledgement"
 abbrev pub dropped : Dropping → LockState → Dropped
-dropped a s = record { told = a; state = s }
+dropped answer state = record { told = answer; state = state }
 
 abbrev pub asDropping : Acknowledgement → Dropping
 asDropping acknowledgement.Done = dropping.Done
@@ -100,19 +100,19 @@ asDropping acknowledgement.Invariant = dropping.Invariant
 asDropping (acknowledgement.UnsoundState n) = dropping.UnsoundState n
 
 abbrev pub asDropped : Acknowledged → Dropped
-asDropped r = dropped (asDropping (r .told)) (r .state)
+asDropped result = dropped (asDropping (result .told)) (result .state)
 
 unfoldable pub dropFoundOn : LockState → LockId → ScopeKey → ℕ → Option DefunctLock → Dropped
-dropFoundOn s i k subject none = dropped dropping.Absent s
-dropFoundOn s i k subject (some d) =
-    cond (sameScope (d .lock .scope) k)
-    (cond (eqb (d .lock .subject) subject) (asDropped (acknowledgeOn s i)) (dropped dropping.Forbidden s))
-    (dropped dropping.Absent s)
+dropFoundOn state id scope subject none = dropped dropping.Absent state
+dropFoundOn state id scope subject (some broken) =
+    cond (sameScope (broken .lock .scope) scope)
+    (cond (eqb (broken .lock .subject) subject) (asDropped (acknowledgeOn state id)) (dropped dropping.Forbidden state))
+    (dropped dropping.Absent state)
 
 unfoldable pub deleteDefunctOn : LockState → LockId → ScopeKey → ℕ → Dropped
-deleteDefunctOn s i k subject =
-    onSound s (λ n. dropped (dropping.UnsoundState n) s)
-    (dropFoundOn s i k subject (find (hasIdD i) (modelOf s .defunct)))
+deleteDefunctOn state id scope subject =
+    onSound state (λ rule. dropped (dropping.UnsoundState rule) state)
+    (dropFoundOn state id scope subject (find (hasIdD id) (modelOf state .defunct)))
 
 -- true and false are no refusals: number 0 and a value, 1 or 0
 unfoldable pub droppingPaper : Dropping → Paper

@@ -93,20 +93,20 @@ pub fn vehicle_lock_owner_sub(s: LockState) -> Owner
     owner_of(f)
 }
 
-fn kinds_held(l: [ActiveLock; LockState::ACTIVE], n: usize) -> Kinds
+fn kinds_held(locks: [ActiveLock; LockState::ACTIVE], n: usize) -> Kinds
     requires { ⌜ n ≤ 64 ⌝ }
-    ensures { λ r. ⌜ r ≡ kindsOf (take n l) ⌝ }
+    ensures { λ r. ⌜ r ≡ kindsOf (take n locks) ⌝ }
 {
     let mut groups = false;
     let mut ecus = false;
     let mut i: usize = 0;
     while i < n {
-        let a = l[i];
-        let m = a.lock;
-        let k = m.scope;
-        let g = state::is_group(k);
+        let a = locks[i];
+        let lock = a.lock;
+        let scope = lock.scope;
+        let g = state::is_group(scope);
         groups = groups | g;
-        ecus = ecus | (!state::is_vehicle(k) & !g);
+        ecus = ecus | (!state::is_vehicle(scope) & !g);
         i += 1;
     }
     Kinds { groups, ecus }
@@ -119,15 +119,15 @@ pub fn has_non_vehicle_locks(s: LockState) -> Truth
     if let Verdict::Broken(n) = v {
         return Truth::UnsoundState(n);
     }
-    let l = s.active;
-    let k = kinds_held(l, s.actives);
+    let locks = s.active;
+    let k = kinds_held(locks, s.actives);
     Truth::Is(k.groups | k.ecus)
 }
 
 fn raise(generation: u64) -> u64
     ensures { λ r. ⌜ r ≡ raised generation ⌝ }
 {
-    if generation == 18446744073709551615 {
+    if generation == u64::MAX {
         return generation;
     }
     generation + 1
@@ -141,8 +141,8 @@ pub fn prepare_runtime_update(s: LockState, generation: u64) -> Update
     if let Verdict::Broken(n) = v {
         return Update::UnsoundState(n);
     }
-    let l = s.active;
-    let k = kinds_held(l, s.actives);
+    let locks = s.active;
+    let k = kinds_held(locks, s.actives);
     if k.groups {
         return Update::FunctionalGroupLocksHeld;
     }
@@ -156,12 +156,12 @@ pub fn prepare_runtime_update(s: LockState, generation: u64) -> Update
 fn judge_entry(d: DefunctLock, scope: ScopeKey, subject: u16) -> Dropping
     ensures { λ r. ⌜ r ≡ judgeEntry scope subject d ⌝ }
 {
-    let l = d.lock;
-    let k = l.scope;
-    if !state::same_scope(k, scope) {
+    let lock = d.lock;
+    let own = lock.scope;
+    if !state::same_scope(own, scope) {
         return Dropping::Absent;
     }
-    if l.subject != subject {
+    if lock.subject != subject {
         return Dropping::Forbidden;
     }
     Dropping::Done

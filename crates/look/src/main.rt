@@ -54,7 +54,7 @@ fn range(first: usize, last: usize, more: bool) {
 fn ranges(c: LockCoverage) {
     let mut at = text::edge(c, 0, true);
     let mut more = false;
-    while at < 256 {
+    while at < text::ECUS {
         let end = text::edge(c, at + 1, false);
         range(at, end - 1, more);
         more = true;
@@ -68,7 +68,7 @@ fn coverage(c: LockCoverage) {
         say(b"whole");
         return;
     }
-    if 256 <= text::edge(c, 0, true) {
+    if text::ECUS <= text::edge(c, 0, true) {
         say(b"none");
         return;
     }

@@ -7,6 +7,9 @@ ghost use Prim.Native.Nat.{_%_};
 ghost use Rattle.io.specs.Digits.{glyph};
 ghost use Rattle.look.specs.Text.{fourOf, idText, isEdge, edgeOf};
 
+// Added to ten it is the letter a.
+const LETTERS: u8 = 87;
+
 // The last hexadecimal digit.
 fn digit(x: u64) -> u8
     ensures { λ r. ⌜ r ≡ glyph (x % 16) ⌝ }
@@ -15,7 +18,7 @@ fn digit(x: u64) -> u8
     if d < 10 {
         return 48 + d;
     }
-    87 + d
+    LETTERS + d
 }
 
 // The last four hexadecimal digits.
@@ -79,6 +82,9 @@ pub fn id_text(id: LockId) -> [u8; 36]
     ]
 }
 
+// ECUs have the numbers below this.
+pub const ECUS: usize = 256;
+
 // Whether the coverage has the ECU, or whether it has not.
 fn is_edge(c: LockCoverage, e: u8, inside: bool) -> bool
     ensures { λ r. ⌜ r ≡ isEdge c inside e ⌝ }
@@ -90,12 +96,12 @@ fn is_edge(c: LockCoverage, e: u8, inside: bool) -> bool
     !has
 }
 
-// The first ECU from `from` on that the coverage has, or has not: 256 where there is none.
+// The first ECU from `from` on that the coverage has, or has not: ECUS where there is none.
 pub fn edge(c: LockCoverage, from: usize, inside: bool) -> usize
     ensures { λ r. ⌜ r ≡ edgeOf c inside from ⌝ }
 {
     let mut e = from;
-    while e < 256 {
+    while e < ECUS {
         if is_edge(c, e as u8, inside) {
             return e;
         }

@@ -2,5 +2,6 @@
 pub mod Verdicts
 pub mod Presents
 pub mod Walk
+pub mod Follow
 pub mod Visits
 pub mod Papers

@@ -1,11 +1,11 @@
--- No two answers of a read have one paper: from document 01's number and values the answer is read back. The reading of
--- papers here serves the answers of the operations and of 001's functions too. Assumes nothing.
-use mathlib.Core.Bool.{Bool, true, false, cond}
+-- No two answers of a read have one paper: from document 01's number and values the answer is read back. Assumes nothing.
+use mathlib.Core.Bool.{Bool, true, false}
 use mathlib.Core.List.{List, [], _∷_}
-use mathlib.Core.Path.{_≡_, refl, sym, ap, _∙_}
+use mathlib.Core.Path.{_≡_, refl, ap, _∙_}
 use Prim.Native.Nat.{ℕ, _+_}
 use lib.Dec.{eqb}
-use lib.ListN.{getD}
+use Rattle.lists.specs.Papers.{Paper}
+use Rattle.lists.proofs.Papers.{pick, one-to-one, valueAt}
 use Rattle.ids.specs.declared.LockId.{LockId}
 use Rattle.coverage.specs.declared.LockCoverage.{LockCoverage}
 use Rattle.state.specs.declared.ScopeKey.{ScopeKey}
@@ -31,20 +31,7 @@ use Rattle.lookups.specs.declared.Needed.{Needed}
 use Rattle.lookups.specs.declared.Needed.the-variants as needed
 use Rattle.lookups.specs.declared.Holder.{Holder}
 use Rattle.lookups.specs.declared.Holder.the-variants as holder
-use Rattle.lookups.specs.Papers.{Paper, flagValue, verdictPaper, foundActivePaper, foundDefunctPaper, revisionPaper, truthPaper, listedPaper, neededPaper, holderPaper}
-
--- ---- reading a paper: what stands beside a number in a table, and the values by their places
-module _ {A : Type 0} where
-  abbrev pub pick : ℕ → List (ℕ × A) → A → A
-  pick n [] a = a
-  pick n (r ∷ rs) a = cond (eqb n (r .0)) (r .1) (pick n rs a)
-
-  -- what can be read back is one-to-one
-  pub one-to-one : (f : A → Paper) (g : Paper → A) → ((a : A) → g (f a) ≡ a) → (a b : A) → f a ≡ f b → a ≡ b
-  one-to-one f g h a b e = sym (h a) ∙ ap g e ∙ h b
-
-abbrev pub valueAt : Paper → ℕ → ℕ
-valueAt p k = getD (p .values) k 0
+use Rattle.lookups.specs.Papers.{flagValue, verdictPaper, foundActivePaper, foundDefunctPaper, revisionPaper, truthPaper, listedPaper, neededPaper, holderPaper}
 
 abbrev pub idAt : Paper → ℕ → LockId
 idAt p k = record { hi = valueAt p k; lo = valueAt p (k + 1) }

@@ -27,7 +27,7 @@ use Rattle.state.specs.Locks.{dkey, blankDefunct}
 use Rattle.state.specs.Model.{modelOf}
 use Rattle.rules.specs.declared.Verdict.the-variants.{Sound}
 use Rattle.rules.specs.Rules.{findA, findD, brokenRule}
-use Rattle.rules.specs.Places.{Sought}
+use Rattle.rules.specs.Code.{Sought}
 use Rattle.rules.proofs.Ends.{Ends, ends-anywhere}
 use Rattle.rules.proofs.Sound.{facts-of-state}
 use Rattle.lookups.specs.Reads.{held, walk}

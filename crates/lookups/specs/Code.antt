@@ -1,4 +1,5 @@
--- What only the code's contracts name.
+-- What only the contracts of the crate's own functions name: a reader of the reads need not believe or read any of it. The
+-- public contracts are the `..On` definitions of Reads.antt alone, and the proofs join the two.
 use mathlib.Core.Bool.{Bool, true}
 use mathlib.Core.List.{List}
 use mathlib.Core.Path.{_≡_}

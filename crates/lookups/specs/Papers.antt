@@ -1,8 +1,9 @@
--- What document 01's paper says of an answer: its number ("Numbers of the answers") and the values beside it. Of the reads
--- that is 12 UnsoundState with the rule, or 0 and what was found.
+-- The papers of the reads (lists, specs/Papers.antt): 12 UnsoundState with the rule, or 0 and what was found; and locks as
+-- values, for every crate's papers.
 use mathlib.Core.Bool.{Bool, cond}
 use mathlib.Core.List.{List, [], _∷_}
 use Prim.Native.Nat.{ℕ}
+use Rattle.lists.specs.Papers.{Paper, paper}
 use Rattle.ids.specs.declared.LockId.{LockId}
 use Rattle.coverage.specs.declared.LockCoverage.{LockCoverage}
 use Rattle.state.specs.declared.ScopeKey.{ScopeKey}
@@ -29,15 +30,7 @@ use Rattle.lookups.specs.declared.Needed.the-variants as needed
 use Rattle.lookups.specs.declared.Holder.{Holder}
 use Rattle.lookups.specs.declared.Holder.the-variants as holder
 
--- ---- the number, and the values beside it
-pub record Paper : Type 0 where
-  pub number : ℕ
-  pub values : List ℕ
-
-abbrev pub paper : ℕ → List ℕ → Paper
-paper n vs = record { number = n; values = vs }
-
--- an id is its two halves
+-- ---- locks as values: an id is its two halves
 abbrev pub idValues : LockId → List ℕ → List ℕ
 idValues i vs = i .hi ∷ (i .lo ∷ vs)
 

@@ -3,6 +3,7 @@
 use mathlib.Core.Bool.{Bool, true, false, cond}
 use mathlib.Core.List.{List, [], _∷_, map}
 use mathlib.Core.Option.{Option, none, some}
+use mathlib.Core.Path.{_≡_}
 use Prim.Native.Nat.{ℕ, zero, suc}
 use lib.Dec.{eqb, ltb}
 use lib.ListN.{length, getD}
@@ -47,7 +48,7 @@ byVerdict Sound u a = a
 byVerdict (Broken n) u a = u n
 
 unfoldable pub onSound : {A : Type 0} → LockState → (ℕ → A) → A → A
-onSound s u a = byVerdict (brokenRule s) u a
+onSound state u a = byVerdict (brokenRule state) u a
 
 abbrev pub toldA : Option ActiveLock → FoundActive
 toldA none = active.Nothing
@@ -59,60 +60,60 @@ toldD (some d) = defunct.Lock d
 
 -- ---- revision
 unfoldable pub revisionOn : LockState → Revision
-revisionOn s = onSound s revision.UnsoundState (revision.At (s .revision))
+revisionOn state = onSound state revision.UnsoundState (revision.At (state .revision))
 
 -- ---- active_for_scope, active_by_id, defunct_by_id
 unfoldable pub onScope : ScopeKey → ActiveLock → Bool
-onScope k a = sameScope (a .lock .scope) k
+onScope scope lock = sameScope (lock .lock .scope) scope
 
 unfoldable pub activeForScopeOn : LockState → ScopeKey → FoundActive
-activeForScopeOn s k = onSound s active.UnsoundState (toldA (find (onScope k) (modelOf s .active)))
+activeForScopeOn state scope = onSound state active.UnsoundState (toldA (find (onScope scope) (modelOf state .active)))
 
 unfoldable pub activeByIdOn : LockState → LockId → FoundActive
-activeByIdOn s i = onSound s active.UnsoundState (toldA (find (hasId i) (modelOf s .active)))
+activeByIdOn state id = onSound state active.UnsoundState (toldA (find (hasId id) (modelOf state .active)))
 
 unfoldable pub defunctByIdOn : LockState → LockId → FoundDefunct
-defunctByIdOn s i = onSound s defunct.UnsoundState (toldD (find (hasIdD i) (modelOf s .defunct)))
+defunctByIdOn state id = onSound state defunct.UnsoundState (toldD (find (hasIdD id) (modelOf state .defunct)))
 
 -- ---- active, defunct: the i-th lock of each list, "in deterministic ID order"
 unfoldable pub activeAtOn : LockState → ℕ → FoundActive
-activeAtOn s i = onSound s active.UnsoundState (cond (ltb i (s .actives)) (active.Lock (getD (s .active) i blankActive)) active.Nothing)
+activeAtOn state place = onSound state active.UnsoundState (cond (ltb place (state .actives)) (active.Lock (getD (state .active) place blankActive)) active.Nothing)
 
 unfoldable pub defunctAtOn : LockState → ℕ → FoundDefunct
-defunctAtOn s i = onSound s defunct.UnsoundState (cond (ltb i (s .defuncts)) (defunct.Lock (getD (s .defunct) i blankDefunct)) defunct.Nothing)
+defunctAtOn state place = onSound state defunct.UnsoundState (cond (ltb place (state .defuncts)) (defunct.Lock (getD (state .defunct) place blankDefunct)) defunct.Nothing)
 
 -- ---- covered_narrow_locks: "for a group, the same subject's ECU locks whose scope ECU it covers, ascending"
 unfoldable pub narrow : ActiveLock → ActiveLock → Bool
-narrow r a = isGroup (r .lock .scope) and eqb (a .lock .subject) (r .lock .subject) and ecuIn (r .lock .coverage) (a .lock .scope)
+narrow group lock = isGroup (group .lock .scope) and eqb (lock .lock .subject) (group .lock .subject) and ecuIn (group .lock .coverage) (lock .lock .scope)
 
 abbrev pub narrowIds : ActiveLock → Model → List LockId
-narrowIds r m = map (λ a. a .lock .id) (filter (narrow r) (m .active))
+narrowIds group m = map (λ a. a .lock .id) (filter (narrow group) (m .active))
 
 abbrev pub idsTold : List LockId → Narrow
 idsTold l = record { told = listed.Ids (length l); ids = inPlaces 64 noId l }
 
 unfoldable pub coveredNarrowOn : LockState → ActiveLock → Narrow
-coveredNarrowOn s r = onSound s (λ n. record { told = listed.UnsoundState n; ids = inPlaces 64 noId [] }) (idsTold (narrowIds r (modelOf s)))
+coveredNarrowOn state group = onSound state (λ rule. record { told = listed.UnsoundState rule; ids = inPlaces 64 noId [] }) (idsTold (narrowIds group (modelOf state)))
 
 -- ---- covering_functional_group: the subject's group lock that covers the ECU
 unfoldable pub groupOver : ℕ → ℕ → ActiveLock → Bool
-groupOver subject e a = isGroup (a .lock .scope) and eqb (a .lock .subject) subject and covers (a .lock .coverage) e
+groupOver subject ecu lock = isGroup (lock .lock .scope) and eqb (lock .lock .subject) subject and covers (lock .lock .coverage) ecu
 
 unfoldable pub coveringGroupOn : LockState → ℕ → ℕ → FoundActive
-coveringGroupOn s subject e = onSound s active.UnsoundState (toldA (find (groupOver subject e) (modelOf s .active)))
+coveringGroupOn state subject ecu = onSound state active.UnsoundState (toldA (find (groupOver subject ecu) (modelOf state .active)))
 
 -- ---- tester_present_for: an ECU's own unless a group of the subject covers it, a group's own, none for the vehicle
 unfoldable pub presentFor : List ActiveLock → ℕ → ScopeKey → Option TesterPresent
-presentFor l subject Vehicle = none
-presentFor l subject (Ecu e) = cond (any (groupOver subject e) l) none (some (present.Ecu e))
-presentFor l subject (FunctionalGroup g) = some (present.Functional g)
+presentFor locks subject Vehicle = none
+presentFor locks subject (Ecu e) = cond (any (groupOver subject e) locks) none (some (present.Ecu e))
+presentFor locks subject (FunctionalGroup g) = some (present.Functional g)
 
 abbrev pub toldPresent : Option TesterPresent → Needed
 toldPresent none = needed.Nothing
 toldPresent (some t) = needed.Present t
 
 unfoldable pub testerPresentForOn : LockState → ℕ → ScopeKey → Needed
-testerPresentForOn s subject k = onSound s needed.UnsoundState (toldPresent (presentFor (modelOf s .active) subject k))
+testerPresentForOn state subject scope = onSound state needed.UnsoundState (toldPresent (presentFor (modelOf state .active) subject scope))
 
 -- ---- tester_present_needed: some active lock needs just this
 unfoldable pub samePresent : TesterPresent → Option TesterPresent → Bool
@@ -123,29 +124,38 @@ samePresent (present.Functional g) (some (present.Ecu e)) = false
 samePresent (present.Functional g) (some (present.Functional h)) = eqb g h
 
 abbrev pub needs : List ActiveLock → TesterPresent → ActiveLock → Bool
-needs l t a = samePresent t (presentFor l (a .lock .subject) (a .lock .scope))
+needs locks t lock = samePresent t (presentFor locks (lock .lock .subject) (lock .lock .scope))
 
 unfoldable pub testerPresentNeededOn : LockState → TesterPresent → Truth
-testerPresentNeededOn s t = onSound s truth.UnsoundState (truth.Is (any (needs (modelOf s .active) t) (modelOf s .active)))
+testerPresentNeededOn state t = onSound state truth.UnsoundState (truth.Is (any (needs (modelOf state .active) t) (modelOf state .active)))
 
 -- ---- uncovered_defunct
 -- a lock on the scope with the coverage protects all that the entry protected: "the new scope is vehicle or equal, or the
 -- new coverage contains theirs"
 unfoldable pub coversDefunct : ScopeKey → LockCoverage → DefunctLock → Bool
-coversDefunct k c d = isVehicle k or sameScope k (d .lock .scope) or within (d .lock .coverage) c
+coversDefunct scope coverage broken = isVehicle scope or sameScope scope (broken .lock .scope) or within (broken .lock .coverage) coverage
 
 -- an unexpired entry of the subject that the new lock would overlap without covering it
 unfoldable pub uncovered : ℕ → ScopeKey → LockCoverage → ℕ → DefunctLock → Bool
-uncovered subject k c now d =
-    eqb (d .lock .subject) subject
-    and ltb now (d .expires)
-    and (isVehicle (d .lock .scope) or sameScope (d .lock .scope) k or overlap (d .lock .coverage) c)
-    and non (coversDefunct k c d)
+uncovered subject scope coverage now broken =
+    eqb (broken .lock .subject) subject
+    and ltb now (broken .expires)
+    and (isVehicle (broken .lock .scope) or sameScope (broken .lock .scope) scope or overlap (broken .lock .coverage) coverage)
+    and non (coversDefunct scope coverage broken)
 
 unfoldable pub uncoveredDefunctOn : LockState → ℕ → ScopeKey → LockCoverage → ℕ → FoundDefunct
-uncoveredDefunctOn s subject k c now = onSound s defunct.UnsoundState (toldD (find (uncovered subject k c now) (modelOf s .defunct)))
+uncoveredDefunctOn state subject scope coverage now = onSound state defunct.UnsoundState (toldD (find (uncovered subject scope coverage now) (modelOf state .defunct)))
 
 -- ---- current_holder: "also reports (added) how many defunct entries it passed after the given record, at most 128"
+-- From the id k, named with the holder h, the entries ds are passed one after the other, and then the subject s holds: an
+-- active lock at the id holds itself; an id that is neither active nor defunct leaves the holder named last.
+pub data Follows (m : Model) : ℕ → ℕ → List DefunctLock → ℕ → Type 0 where
+  holds : {k h s : ℕ} {a : ActiveLock} → findA (m .active) k ≡ some a → s ≡ a .lock .subject → Follows m k h [] s
+  leads : {k h s : ℕ} → findA (m .active) k ≡ none → findD (m .defunct) k ≡ none → s ≡ h → Follows m k h [] s
+  passes : {k h s : ℕ} {d : DefunctLock} {ds : List DefunctLock} → findA (m .active) k ≡ none → findD (m .defunct) k ≡ some d → Follows m (key (d .target)) (d .holder) ds s → Follows m k h (d ∷ ds) s
+
+-- The same as a function, which in a sound state finds the one way there is (proofs/Follow.antt, `holder-follows` and
+-- `one-way`)
 pub record Held : Type 0 where
   pub subject : ℕ
   pub links : ℕ
@@ -165,7 +175,7 @@ walk (suc n) m k h c =
 
 -- as many turns as there are entries, and one more to look at where they end
 unfoldable pub holderOf : Model → DefunctLock → Held
-holderOf m d = walk (suc (length (m .defunct))) m (key (d .target)) (d .holder) 0
+holderOf m broken = walk (suc (length (m .defunct))) m (key (broken .target)) (broken .holder) 0
 
 unfoldable pub currentHolderOn : LockState → DefunctLock → Holder
-currentHolderOn s d = onSound s holder.UnsoundState (holder.Held (holderOf (modelOf s) d .subject) (holderOf (modelOf s) d .links))
+currentHolderOn state broken = onSound state holder.UnsoundState (holder.Held (holderOf (modelOf state) broken .subject) (holderOf (modelOf state) broken .links))

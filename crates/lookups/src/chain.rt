@@ -13,7 +13,7 @@ ghost use Rattle.state.specs.Locks.{blankActive, blankDefunct};
 ghost use Rattle.state.specs.Model.{modelOf};
 ghost use Rattle.rules.specs.declared.Verdict.the-variants.{Sound};
 ghost use Rattle.rules.specs.Rules.{brokenRule};
-ghost use Rattle.rules.specs.Places.{Sought};
+ghost use Rattle.rules.specs.Code.{Sought};
 ghost use Rattle.lookups.specs.Reads.{holderOf};
 ghost use Rattle.lookups.specs.Code.{Columns, keyAt, activeId, defunctId, toldHeld};
 

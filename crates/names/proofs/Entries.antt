@@ -14,16 +14,17 @@ use Rattle.lists.specs.Below.{allBelow}
 use Rattle.lists.proofs.Tests.{and-l, and-t, and-f}
 use Rattle.lists.proofs.Below.{all-of, all-at, all-no}
 use Rattle.names.specs.Bytes.{folded}
-use Rattle.names.specs.Table.{countOf, entryStart, entryAt, lengthOf, nameOf, restOf, zeros, rightEntry, shortNames}
+use Rattle.names.specs.Table.{most, entrySize, tableSize, longest, countOf, entryStart, entryAt, lengthOf, nameOf, restOf, zeros, rightEntry}
+use Rattle.names.specs.Code.{shortNames}
 
 pub count-bytes : (t : List ℕ) → getD t 0 0 + getD t 1 0 * 256 ≡ countOf t
 unfolding countOf
 count-bytes t = refl
 
 -- ---- the parts that the code takes
-pub entry-part : (t : List ℕ) (i : ℕ) → take (entryStart i + 65 - entryStart i) (drop (entryStart i) t) ≡ entryAt t i
+pub entry-part : (t : List ℕ) (i : ℕ) → take (entryStart i + entrySize - entryStart i) (drop (entryStart i) t) ≡ entryAt t i
 unfolding entryAt
-entry-part t i = let e : entryStart i + 65 - entryStart i ≡ 65 = omega arith in rw e
+entry-part t i = let e : entryStart i + entrySize - entryStart i ≡ entrySize = omega arith in rw e
 
 pub name-part : (e : List ℕ) → take (1 + lengthOf e - 1) (drop 1 e) ≡ nameOf e
 unfolding nameOf
@@ -33,20 +34,20 @@ name-part e = let q : 1 + lengthOf e - 1 ≡ lengthOf e = omega arith in rw q
 pub to-end : (t : List ℕ) (a : ℕ) → take (length t - a) (drop a t) ≡ drop a t
 to-end t a = take-all (length t - a) (drop a t) (omega (arith, length-drop a t))
 
-pub entry-long : (t e : List ℕ) (i : ℕ) → length t ≡ 16642 → i < 256 → e ≡ entryAt t i → length e ≡ 65
+pub entry-long : (t e : List ℕ) (i : ℕ) → length t ≡ tableSize → i < most → e ≡ entryAt t i → length e ≡ entrySize
 unfolding entryAt
 entry-long t e i l h q = ap length q ∙ simp (length-take, length-drop) (omega arith)
 
 -- ---- the test of an entry
 module _ (f : Bool) (e : List ℕ) where
-  pub too-long : 64 < lengthOf e → false ≡ rightEntry f e
+  pub too-long : longest < lengthOf e → false ≡ rightEntry f e
   unfolding rightEntry
-  too-long h = rw (and-f (leb (lengthOf e) 64) (zeros (restOf e)) (lt-leb (lengthOf e) 64 h)) (sym (and-f false _ refl))
+  too-long h = rw (and-f (leb (lengthOf e) longest) (zeros (restOf e)) (lt-leb (lengthOf e) longest h)) (sym (and-f false _ refl))
 
-  module _ (h : lengthOf e ≤ 64) (z : Bool) (q : z ≡ zeros (take (length e - (1 + lengthOf e)) (drop (1 + lengthOf e) e))) where
+  module _ (h : lengthOf e ≤ longest) (z : Bool) (q : z ≡ zeros (take (length e - (1 + lengthOf e)) (drop (1 + lengthOf e) e))) where
     entry-rest : rightEntry f e ≡ (z and (f imp folded (nameOf e)))
     unfolding rightEntry restOf
-    entry-rest = rw (and-t (leb (lengthOf e) 64) (zeros (drop (1 + lengthOf e) e)) (le-leb (lengthOf e) 64 h), q, to-end e (1 + lengthOf e))
+    entry-rest = rw (and-t (leb (lengthOf e) longest) (zeros (drop (1 + lengthOf e) e)) (le-leb (lengthOf e) longest h), q, to-end e (1 + lengthOf e))
 
     pub not-unused : z ≡ false → false ≡ rightEntry f e
     not-unused g = sym (entry-rest ∙ and-f z _ g)
@@ -73,9 +74,13 @@ module _ (f : Bool) (t : List ℕ) (n : ℕ) where
   -- so their names are short enough to be read
   pub short-names : Yes (allBelow n (λ i. rightEntry f (entryAt t i))) → Yes (shortNames n t)
   unfolding shortNames rightEntry
-  short-names y = all-of n (λ i. leb (lengthOf (entryAt t i)) 64) (λ i h.
+  short-names y = all-of n (λ i. leb (lengthOf (entryAt t i)) longest) (λ i h.
       and-l _ (zeros (restOf (entryAt t i))) (and-l _ (f imp folded (nameOf (entryAt t i))) (all-at n (λ i. rightEntry f (entryAt t i)) y i h)))
 
-pub short-at : (t e : List ℕ) (n i : ℕ) → Yes (shortNames n t) → i < n → e ≡ entryAt t i → lengthOf e ≤ 64
+pub short-at : (t e : List ℕ) (n i : ℕ) → Yes (shortNames n t) → i < n → e ≡ entryAt t i → lengthOf e ≤ longest
 unfolding shortNames
-short-at t e n i y h q = rw q (leb-true (lengthOf (entryAt t i)) 64 (all-at n (λ i. leb (lengthOf (entryAt t i)) 64) y i h))
+short-at t e n i y h q = rw q (leb-true (lengthOf (entryAt t i)) longest (all-at n (λ i. leb (lengthOf (entryAt t i)) longest) y i h))
+
+pub fewer-short : (t : List ℕ) (n i : ℕ) → i ≤ n → Yes (shortNames n t) → Yes (shortNames i t)
+unfolding shortNames
+fewer-short t n i h y = all-of i (λ j. leb (lengthOf (entryAt t j)) longest) (λ j k. all-at n (λ j. leb (lengthOf (entryAt t j)) longest) y j (omega arith))

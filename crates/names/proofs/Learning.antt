@@ -13,12 +13,14 @@ use lib.Seq.{take-append-seam, drop-append-seam, take-append-add, drop-drop}
 use borrow.Author.Tests.{le-leb}
 use Rattle.lists.specs.Tests.{_and_, _imp_, Yes, No}
 use Rattle.lists.specs.Below.{allBelow}
+use Rattle.lists.specs.Places.{splice}
 use Rattle.lists.proofs.Tests.{and-l, and-r, and-i}
 use Rattle.lists.proofs.Below.{all-of, all-at}
+use Rattle.lists.proofs.Places.{length-splice}
 use Rattle.names.specs.Bytes.{folded, known}
-use Rattle.names.specs.Table.{countOf, entryStart, entryAt, lengthOf, nameOf, restOf, namesOf, zeros, rightEntry, rightTable, put, learned}
+use Rattle.names.specs.Table.{longest, most, entrySize, tableSize, countBytes, countOf, entryStart, entryAt, lengthOf, nameOf, restOf, namesOf, zeros, rightEntry, rightTable, learned}
 use Rattle.names.proofs.Lists.{names-same, names-last, once-more}
-use Rattle.names.proofs.Puts.{length-put, part-before, drop-there, drop-after}
+use Rattle.names.proofs.Puts.{part-before, drop-there, drop-after}
 use Rattle.names.proofs.Right.{right-size, right-entries, right-past, right-once, make-right}
 
 -- ---- zeros
@@ -36,35 +38,35 @@ zeros-drop (suc k) (x ∷ xs) y = zeros-drop k xs (and-r (eqb x 0) (zeros xs) y)
 
 -- ---- the two bytes of the count
 module _ (u : List ℕ) (x y : ℕ) where
-  counted : countOf (put u 0 (x ∷ y ∷ [])) ≡ x + y * 256
-  unfolding countOf put
+  counted : countOf (splice u 0 (x ∷ y ∷ [])) ≡ x + y * 256
+  unfolding countOf splice
   counted = refl
 
   -- they stand before all entries
-  past-count : (k : ℕ) → drop (2 + k) (put u 0 (x ∷ y ∷ [])) ≡ drop (2 + k) u
-  unfolding put
+  past-count : (k : ℕ) → drop (2 + k) (splice u 0 (x ∷ y ∷ [])) ≡ drop (2 + k) u
+  unfolding splice
   past-count k = sym (drop-drop k 2 (x ∷ y ∷ drop 2 u)) ∙ drop-drop k 2 u
 
 -- ---- a right table learns the name b
-module _ (f : Bool) (t b : List ℕ) (y : Yes (rightTable f t)) (room : countOf t < 256) (short : length b ≤ 64) where
+module _ (f : Bool) (t b : List ℕ) (y : Yes (rightTable f t)) (room : countOf t < most) (short : length b ≤ longest) where
   abbrev n : ℕ
   n = countOf t
 
   abbrev with-entry : List ℕ
-  with-entry = put t (entryStart n) (length b ∷ b)
+  with-entry = splice t (entryStart n) (length b ∷ b)
 
-  start-in : entryStart n + 65 ≤ length t
+  start-in : entryStart n + entrySize ≤ length t
   start-in = omega (arith, right-size f t y)
 
   start-le : entryStart n ≤ length t
   start-le = omega (arith, start-in)
 
-  long : length with-entry ≡ 16642
-  long = length-put t (entryStart n) (length b ∷ b) (omega (arith, start-in)) ∙ right-size f t y
+  long : length with-entry ≡ tableSize
+  long = length-splice t (entryStart n) (length b ∷ b) (omega (arith, start-in)) ∙ right-size f t y
 
-  pub learned-size : length (learned t b) ≡ 16642
+  pub learned-size : length (learned t b) ≡ tableSize
   unfolding learned
-  learned-size = length-put with-entry 0 ((n + 1) % 256 ∷ (n + 1) / 256 ∷ []) (omega (arith, long)) ∙ long
+  learned-size = length-splice with-entry 0 (countBytes (n + 1)) (omega (arith, long)) ∙ long
 
   pub learned-count : countOf (learned t b) ≡ n + 1
   unfolding learned
@@ -73,30 +75,30 @@ module _ (f : Bool) (t b : List ℕ) (y : Yes (rightTable f t)) (room : countOf 
   -- every entry but the new one has its bytes
   from-entry : (i : ℕ) → drop (entryStart i) (learned t b) ≡ drop (entryStart i) with-entry
   unfolding learned
-  from-entry i = past-count with-entry ((n + 1) % 256) ((n + 1) / 256) (i * 65)
+  from-entry i = past-count with-entry ((n + 1) % 256) ((n + 1) / 256) (i * entrySize)
 
   pub entry-before : (i : ℕ) → i < n → entryAt (learned t b) i ≡ entryAt t i
   unfolding entryAt
-  entry-before i h = ap (take 65) (from-entry i) ∙ part-before t (length b ∷ b) (entryStart n) start-le (entryStart i) 65 (omega arith)
+  entry-before i h = ap (take entrySize) (from-entry i) ∙ part-before t (length b ∷ b) (entryStart n) start-le (entryStart i) entrySize (omega arith)
 
   past-entry : (i : ℕ) → n < i → drop (entryStart i) (learned t b) ≡ drop (entryStart i) t
   past-entry i h = from-entry i ∙ drop-after t (length b ∷ b) (entryStart n) start-le (entryStart i) (omega arith)
 
   pub entry-past : (i : ℕ) → n < i → entryAt (learned t b) i ≡ entryAt t i
   unfolding entryAt
-  entry-past i h = ap (take 65) (past-entry i h)
+  entry-past i h = ap (take entrySize) (past-entry i h)
 
   -- the new entry
   abbrev blank : List ℕ
-  blank = take (64 - length b) (drop (entryStart n + length (length b ∷ b)) t)
+  blank = take (longest - length b) (drop (entryStart n + length (length b ∷ b)) t)
 
   pub entry-new : entryAt (learned t b) n ≡ length b ∷ (b ++ blank)
   unfolding entryAt
   entry-new =
-      let e : length b + (64 - length b) ≡ 64 = omega arith in
-      ap (take 65) (from-entry n ∙ drop-there t (length b ∷ b) (entryStart n) start-le)
+      let e : length b + (longest - length b) ≡ longest = omega arith in
+      ap (take entrySize) (from-entry n ∙ drop-there t (length b ∷ b) (entryStart n) start-le)
       ∙ ap (λ (l : List ℕ). length b ∷ l)
-      (subst (λ (k : ℕ). take k (b ++ drop (entryStart n + length (length b ∷ b)) t) ≡ b ++ blank) e (take-append-add b (drop (entryStart n + length (length b ∷ b)) t) (64 - length b)))
+      (subst (λ (k : ℕ). take k (b ++ drop (entryStart n + length (length b ∷ b)) t) ≡ b ++ blank) e (take-append-add b (drop (entryStart n + length (length b ∷ b)) t) (longest - length b)))
 
   pub name-new : nameOf (entryAt (learned t b) n) ≡ b
   unfolding nameOf
@@ -104,7 +106,7 @@ module _ (f : Bool) (t b : List ℕ) (y : Yes (rightTable f t)) (room : countOf 
 
   blank-zero : Yes (zeros blank)
   blank-zero =
-      zeros-take (64 - length b) (drop (entryStart n + length (length b ∷ b)) t)
+      zeros-take (longest - length b) (drop (entryStart n + length (length b ∷ b)) t)
       (rw (← (drop-drop (length (length b ∷ b)) (entryStart n) t)) (zeros-drop (length (length b ∷ b)) (drop (entryStart n) t) (right-past f t y)))
 
   rest-new : Yes (zeros (restOf (entryAt (learned t b) n)))
@@ -123,8 +125,8 @@ module _ (f : Bool) (t b : List ℕ) (y : Yes (rightTable f t)) (room : countOf 
   unfolding rightEntry
   right-new g =
       let e : lengthOf (entryAt (learned t b) n) ≡ length b = rw entry-new in
-      and-i (leb (lengthOf (entryAt (learned t b) n)) 64 and zeros (restOf (entryAt (learned t b) n))) (f imp folded (nameOf (entryAt (learned t b) n)))
-      (and-i (leb (lengthOf (entryAt (learned t b) n)) 64) (zeros (restOf (entryAt (learned t b) n))) (le-leb (lengthOf (entryAt (learned t b) n)) 64 (omega (arith, e))) rest-new)
+      and-i (leb (lengthOf (entryAt (learned t b) n)) longest and zeros (restOf (entryAt (learned t b) n))) (f imp folded (nameOf (entryAt (learned t b) n)))
+      (and-i (leb (lengthOf (entryAt (learned t b) n)) longest) (zeros (restOf (entryAt (learned t b) n))) (le-leb (lengthOf (entryAt (learned t b) n)) longest (omega (arith, e))) rest-new)
       (rw name-new g)
 
   learned-entries : Yes (f imp folded b) → Yes (allBelow (countOf (learned t b)) (λ i. rightEntry f (entryAt (learned t b) i)))
@@ -135,8 +137,8 @@ module _ (f : Bool) (t b : List ℕ) (y : Yes (rightTable f t)) (room : countOf 
 
   learned-past : Yes (zeros (drop (entryStart (countOf (learned t b))) (learned t b)))
   learned-past =
-      let e : entryStart (n + 1) ≡ entryStart n + 65 = omega arith in
-      rw (learned-count, past-entry (n + 1) (omega arith), e, ← (drop-drop 65 (entryStart n) t)) (zeros-drop 65 (drop (entryStart n) t) (right-past f t y))
+      let e : entryStart (n + 1) ≡ entryStart n + entrySize = omega arith in
+      rw (learned-count, past-entry (n + 1) (omega arith), e, ← (drop-drop entrySize (entryStart n) t)) (zeros-drop entrySize (drop (entryStart n) t) (right-past f t y))
 
   pub learned-right : Yes (f imp folded b) → No (known b (namesOf t)) → Yes (rightTable f (learned t b))
   learned-right g k =

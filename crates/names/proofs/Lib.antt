@@ -1,6 +1,7 @@
 pub mod Bytes
 pub mod Entries
 pub mod Lists
+pub mod Prints
 pub mod Right
 pub mod Puts
 pub mod Chain

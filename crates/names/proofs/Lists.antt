@@ -10,10 +10,16 @@ use lib.Dec.{ltb, leb·suc-suc}
 use lib.ListN.{length, getD}
 use borrow.Author.Tests.{lt-ltb, le-ltb, ltb-true}
 use Rattle.lists.specs.Tests.{_and_, _or_, non, Yes, No}
-use Rattle.lists.proofs.Tests.{and-t, and-f, and-l, and-r, and-i, or-t, or-f, or-no, non-t, non-f, non-yes, →no, against}
-use Rattle.names.specs.Bytes.{kept, sameBytes, known, placeOf, noneTwice}
+use Rattle.lists.proofs.Tests.{by, and-f, and-l, and-r, and-i, and-comm, or-t, or-f, or-l, or-no, or-comm, non-t, non-f, non-yes, →no, against}
+use Rattle.names.specs.Bytes.{sameBytes, known, placeOf, noneTwice}
 use Rattle.names.specs.Table.{countOf, entryAt, nameOf, namesFrom, namesOf}
-use Rattle.names.proofs.Bytes.{kept-plain, same→, →same}
+use Rattle.names.proofs.Bytes.{same→, →same}
+
+-- a test whose negation fails passes
+pub non-no : (b : Bool) → No (non b) → Yes b
+unfolding non
+non-no true n = refl
+non-no false n = absurd (true≢false n)
 
 -- ---- a list of names from a place on
 pub names-step : (t : List ℕ) (n i : ℕ) → i < n → namesFrom t i (n - i) ≡ nameOf (entryAt t i) ∷ namesFrom t (i + 1) (n - (i + 1))
@@ -25,6 +31,9 @@ unfolding namesFrom
 names-end t n i h = let e : n - i ≡ 0 = omega arith in rw e
 
 -- ---- the search
+pub search-starts : (t x : List ℕ) (n : ℕ) → 0 + placeOf x (namesFrom t 0 (n - 0)) ≡ placeOf x (namesFrom t 0 n)
+search-starts t x n = let e : n - 0 ≡ n = omega arith in let z : 0 + placeOf x (namesFrom t 0 n) ≡ placeOf x (namesFrom t 0 n) = omega arith in rw (e, z)
+
 module _ (t x : List ℕ) (n i w : ℕ) (was : i + placeOf x (namesFrom t i (n - i)) ≡ w) where
   pub found-there : (e s : List ℕ) (r : Bool) → i < n → e ≡ entryAt t i → s ≡ nameOf e → r ≡ sameBytes s x → r ≡ true → i ≡ w
   unfolding placeOf
@@ -61,33 +70,6 @@ unfolding namesFrom
 names-length t i zero = refl
 names-length t i (suc k) = ap suc (names-length t (suc i) k)
 
--- ---- no name twice
-module _ (t : List ℕ) (n : ℕ) where
-  pub twice-start : noneTwice (namesFrom t 0 (n - 0)) ≡ noneTwice (namesFrom t 0 n)
-  twice-start = let e : n - 0 ≡ n = omega arith in rw e
-
-  module _ (i : ℕ) (was : noneTwice (namesFrom t i (n - i)) ≡ noneTwice (namesFrom t 0 n)) where
-    module _ (e s : List ℕ) (r : ℕ) (h : i < n) (p : e ≡ entryAt t i) (q : s ≡ nameOf e) (u : r ≡ i + 1 + placeOf (kept false s) (namesFrom t (i + 1) (n - (i + 1)))) where
-      abbrev later : List (List ℕ)
-      later = namesFrom t (i + 1) (n - (i + 1))
-
-      next : noneTwice (namesFrom t 0 n) ≡ (non (ltb (placeOf (nameOf (entryAt t i)) later) (n - (i + 1))) and noneTwice later)
-      unfolding noneTwice
-      next = sym was ∙ rw (names-step t n i h, known-place (nameOf (entryAt t i)) (namesFrom t (i + 1) (n - (i + 1))), names-length t (i + 1) (n - (i + 1)))
-
-      there : r ≡ i + 1 + placeOf (nameOf (entryAt t i)) later
-      there = u ∙ rw (kept-plain s, q, p)
-
-      pub twice : r < n → false ≡ noneTwice (namesFrom t 0 n)
-      twice g = sym (next ∙ and-f _ _ (non-t _ (lt-ltb (placeOf (nameOf (entryAt t i)) later) (n - (i + 1)) (omega (arith, there)))))
-
-      pub once : n ≤ r → noneTwice later ≡ noneTwice (namesFrom t 0 n)
-      once g = sym (next ∙ and-t _ _ (non-f _ (le-ltb (placeOf (nameOf (entryAt t i)) later) (n - (i + 1)) (omega (arith, there)))))
-
-    pub none-left : n ≤ i → true ≡ noneTwice (namesFrom t 0 n)
-    unfolding noneTwice
-    none-left h = rw (names-end t n i h) at was
-
 -- ---- names one after the other
 pub names-same : (t u : List ℕ) (i k : ℕ) → ((j : ℕ) → i ≤ j → j < i + k → entryAt t j ≡ entryAt u j) → namesFrom t i k ≡ namesFrom u i k
 unfolding namesFrom
@@ -102,19 +84,35 @@ names-last t i (suc k) =
     let e : i + suc k ≡ suc i + k = omega arith in
     rw e (ap (λ (l : List (List ℕ)). nameOf (entryAt t i) ∷ l) (names-last t (suc i) k))
 
--- ---- a new name at the end of a list of names
-pub known-last : (x b : List ℕ) (l : List (List ℕ)) → known x (l ++ (b ∷ [])) ≡ (known x l or sameBytes b x)
+pub names-split : (t : List ℕ) (i k m : ℕ) → namesFrom t i (k + m) ≡ namesFrom t i k ++ namesFrom t (i + k) m
+unfolding namesFrom
+names-split t i zero m = let e : i + 0 ≡ i = omega arith in let z : 0 + m ≡ m = omega arith in rw (e, z)
+names-split t i (suc k) m =
+    let e : i + suc k ≡ suc i + k = omega arith in
+    let z : suc k + m ≡ suc (k + m) = omega arith in
+    rw (e, z) (ap (λ (l : List (List ℕ)). nameOf (entryAt t i) ∷ l) (names-split t (suc i) k m))
+
+-- ---- a name among names one after the other
+pub known-append : (x : List ℕ) (l m : List (List ℕ)) → known x (l ++ m) ≡ (known x l or known x m)
 unfolding known _or_
-known-last x b [] = go (sameBytes b x)
+known-append x [] m = refl
+known-append x (n ∷ ns) m = go (sameBytes n x) (known-append x ns m)
   where
-    go : (c : Bool) → (c or false) ≡ c
-    go true = refl
-    go false = refl
-known-last x b (n ∷ ns) = go (sameBytes n x) (known-last x b ns)
-  where
-    go : (c : Bool) → known x (ns ++ (b ∷ [])) ≡ (known x ns or sameBytes b x) → (c or known x (ns ++ (b ∷ []))) ≡ (c or known x ns or sameBytes b x)
+    go : (c : Bool) → known x (ns ++ m) ≡ (known x ns or known x m) → (c or known x (ns ++ m)) ≡ (c or known x ns or known x m)
     go true h = refl
     go false h = h
+
+pub known-last : (x b : List ℕ) (l : List (List ℕ)) → known x (l ++ (b ∷ [])) ≡ (known x l or sameBytes b x)
+unfolding known
+known-last x b l = known-append x l (b ∷ []) ∙ ap (λ (c : Bool). known x l or c) (or-comm (sameBytes b x) false ∙ or-f false (sameBytes b x) refl)
+
+-- ---- no name twice, from the first on
+pub twice-there : (b : List ℕ) (l m : List (List ℕ)) → Yes (known b l) → No (noneTwice (l ++ (b ∷ m)))
+unfolding noneTwice known
+twice-there b [] m y = absurd (false≢true y)
+twice-there b (x ∷ xs) m y = by (sameBytes x b) (No (noneTwice (x ∷ (xs ++ (b ∷ m)))))
+    (λ s. and-f _ _ (non-t _ (known-append x xs (b ∷ m) ∙ or-comm (known x xs) (known x (b ∷ m)) ∙ or-t _ _ (or-l (sameBytes b x) (known x m) (→same b x (sym (same→ x b s)))))))
+    (λ s. and-comm _ _ ∙ and-f _ _ (twice-there b xs m (sym (or-f (sameBytes x b) (known b xs) s) ∙ y)))
 
 pub once-more : (b : List ℕ) (l : List (List ℕ)) → Yes (noneTwice l) → No (known b l) → Yes (noneTwice (l ++ (b ∷ [])))
 unfolding noneTwice known _and_ _or_ non
@@ -126,6 +124,25 @@ once-more b (x ∷ xs) y n =
     and-i (non (known x (xs ++ (b ∷ [])))) (noneTwice (xs ++ (b ∷ [])))
     (non-f (known x (xs ++ (b ∷ []))) (known-last x b xs ∙ or-f (known x xs) (sameBytes b x) k ∙ q))
     (once-more b xs (and-r (non (known x xs)) (noneTwice xs) y) (p .1))
+
+pub none-before : (t : List ℕ) → Yes (noneTwice (namesFrom t 0 0))
+unfolding noneTwice namesFrom
+none-before t = refl
+
+-- what a loop over a table's names finds at the i-th of them
+module _ (t : List ℕ) (i : ℕ) (r : Bool) (u : r ≡ non (known (nameOf (entryAt t i)) (namesFrom t 0 i))) where
+  pub twice : (n : ℕ) → i < n → r ≡ false → false ≡ noneTwice (namesFrom t 0 n)
+  twice n h g =
+      let e : n ≡ i + (n - i) = omega arith in
+      let z : 0 + i ≡ i = omega arith in
+      let y : Yes (known (nameOf (entryAt t i)) (namesFrom t 0 i)) = non-no _ (sym u ∙ g) in
+      sym (ap (λ (k : ℕ). noneTwice (namesFrom t 0 k)) e ∙ rw (names-split t 0 i (n - i), z, names-step t n i h) (twice-there (nameOf (entryAt t i)) (namesFrom t 0 i) _ y))
+
+  pub once : r ≡ true → Yes (noneTwice (namesFrom t 0 i)) → Yes (noneTwice (namesFrom t 0 (i + 1)))
+  once g y = let z : 0 + i ≡ i = omega arith in rw (add-one i, names-last t 0 i, z) (once-more (nameOf (entryAt t i)) (namesFrom t 0 i) y (non-yes _ (sym u ∙ g)))
+
+pub none-left : (t : List ℕ) (n i : ℕ) → i ≤ n → n ≤ i → Yes (noneTwice (namesFrom t 0 i)) → true ≡ noneTwice (namesFrom t 0 n)
+none-left t n i h k y = let e : n ≡ i = omega arith in rw e (sym y)
 
 -- ---- places in a list of names
 pub place-kept : (x b : List ℕ) (l : List (List ℕ)) → Yes (known x l) → placeOf x (l ++ (b ∷ [])) ≡ placeOf x l

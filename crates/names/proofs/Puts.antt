@@ -8,13 +8,10 @@ use native.Mathlib.Numerals.{add-one}
 use native.Mathlib.Omega.{arith}
 use lib.ListN.{length, getD, set, take, drop, take-append-drop, length-append, length-take, length-drop}
 use lib.Seq.{append-snoc, take-length, take-suc-set, take-append-le, drop-append-le, drop-set-lt, drop-drop, drop-at, paste, paste-suc, length-take-le}
+use Rattle.lists.specs.Places.{splice}
 use Rattle.names.specs.Bytes.{keep1, kept}
-use Rattle.names.specs.Table.{entryStart, put}
+use Rattle.names.specs.Table.{longest, most, tableSize, entryStart}
 use Rattle.names.proofs.Bytes.{kept-length, kept-at}
-
-pub length-put : (t : List ℕ) (a : ℕ) (b : List ℕ) → a + length b ≤ length t → length (put t a b) ≡ length t
-unfolding put
-length-put t a b h = simp (length-append, length-take, length-drop) (omega arith)
 
 -- ---- the code's stores
 -- one byte more of the name
@@ -23,27 +20,27 @@ one-more d table name f at i r h k e q =
     rw (e, q, ← (kept-at f name i), add-one i) (paste-suc d at (kept f name) i 0 h (omega (arith, kept-length f name)))
 
 -- the length byte, and the name after it
-put-entry : (t b : List ℕ) (a v : ℕ) → a < length t → paste (set t a v) (a + 1) b (length b) ≡ put t a (v ∷ b)
-unfolding put
+put-entry : (t b : List ℕ) (a v : ℕ) → a < length t → paste (set t a v) (a + 1) b (length b) ≡ splice t a (v ∷ b)
+unfolding splice
 put-entry t b a v h =
     let e : a + 1 + length b ≡ a + suc (length b) = omega arith in
     rw (e, drop-set-lt (a + suc (length b)) t a v (omega arith), take-length b, add-one a, take-suc-set t a v h)
     (ap (λ (l : List ℕ). l ++ drop (a + suc (length b)) t) (append-snoc (take a t) v b))
 
 -- the two bytes of the count
-put-two : (t : List ℕ) (x y : ℕ) → 2 ≤ length t → set (set t 0 x) 1 y ≡ put t 0 (x ∷ y ∷ [])
-unfolding put
+put-two : (t : List ℕ) (x y : ℕ) → 2 ≤ length t → set (set t 0 x) 1 y ≡ splice t 0 (x ∷ y ∷ [])
+unfolding splice
 put-two [] x y h = absurd (omega arith)
 put-two (a ∷ []) x y h = absurd (omega arith)
 put-two (a ∷ b ∷ t) x y h = refl
 
-pub all-stored : (t table name : List ℕ) (f : Bool) (n i x y : ℕ) → length t ≡ 16642 → n < 256 → length name ≤ 64 → length table ≡ length t → i ≤ length name → length name ≤ i
+pub all-stored : (t table name : List ℕ) (f : Bool) (n i x y : ℕ) → length t ≡ tableSize → n < most → length name ≤ longest → length table ≡ length t → i ≤ length name → length name ≤ i
     → table ≡ paste (set t (entryStart n) (length name)) (entryStart n + 1) (kept f name) i
-    → set (set table 0 x) 1 y ≡ put (put t (entryStart n) (length name ∷ kept f name)) 0 (x ∷ y ∷ [])
+    → set (set table 0 x) 1 y ≡ splice (splice t (entryStart n) (length name ∷ kept f name)) 0 (x ∷ y ∷ [])
 all-stored t table name f n i x y l h k s p q e =
     let m : i ≡ length (kept f name) = omega (arith, kept-length f name) in
     put-two table x y (omega arith)
-    ∙ ap (λ (u : List ℕ). put u 0 (x ∷ y ∷ [])) (e ∙ ap (paste (set t (entryStart n) (length name)) (entryStart n + 1) (kept f name)) m ∙ put-entry t (kept f name) (entryStart n) (length name) (omega arith))
+    ∙ ap (λ (u : List ℕ). splice u 0 (x ∷ y ∷ [])) (e ∙ ap (paste (set t (entryStart n) (length name)) (entryStart n + 1) (kept f name)) m ∙ put-entry t (kept f name) (entryStart n) (length name) (omega arith))
 
 -- ---- which parts keep their bytes
 module _ (t b : List ℕ) (s : ℕ) (h : s ≤ length t) where
@@ -55,19 +52,19 @@ module _ (t b : List ℕ) (s : ℕ) (h : s ≤ length t) where
       rw (drop-append-le a (take s t) r (omega arith), take-append-le k (drop a (take s t)) r e)
 
   -- a part that ends before the bytes put in
-  pub part-before : (a k : ℕ) → a + k ≤ s → take k (drop a (put t s b)) ≡ take k (drop a t)
-  unfolding put
+  pub part-before : (a k : ℕ) → a + k ≤ s → take k (drop a (splice t s b)) ≡ take k (drop a t)
+  unfolding splice
   part-before a k g =
       rw (append-assoc (take s t) b (drop (s + length b) t))
       (before-it (b ++ drop (s + length b) t) a k g ∙ sym (ap (λ (l : List ℕ). take k (drop a l)) (sym (take-append-drop s t)) ∙ before-it (drop s t) a k g))
 
   -- the bytes put in, and what is after them
-  pub drop-there : drop s (put t s b) ≡ b ++ drop (s + length b) t
-  unfolding put
+  pub drop-there : drop s (splice t s b) ≡ b ++ drop (s + length b) t
+  unfolding splice
   drop-there = rw (append-assoc (take s t) b (drop (s + length b) t)) (drop-at (take s t) (b ++ drop (s + length b) t) s (length-take-le s t h))
 
-  pub drop-after : (a : ℕ) → s + length b ≤ a → drop a (put t s b) ≡ drop a t
-  unfolding put
+  pub drop-after : (a : ℕ) → s + length b ≤ a → drop a (splice t s b) ≡ drop a t
+  unfolding splice
   drop-after a g =
       let l : length (take s t ++ b) ≡ s + length b = length-append (take s t) b ∙ ap (λ (n : ℕ). n + length b) (length-take-le s t h) in
       let q : s + length b + (a - (s + length b)) ≡ a = omega arith in

@@ -16,51 +16,47 @@ use Rattle.lists.proofs.Places.{mem-at}
 use Rattle.lists.proofs.Tests.{non-yes, or-l, or-r, cond-both}
 use Rattle.names.specs.declared.Named.{Named}
 use Rattle.names.specs.declared.Named.the-variants.{BadTable, NameTooLong, NamesFull, Known, Learned}
+use Rattle.names.specs.declared.Counted.{Counted}
+use Rattle.names.specs.declared.Counted.the-variants.{BadTable as Spoiled, Names}
 use Rattle.names.specs.declared.NameAt.{NameAt}
 use Rattle.names.specs.declared.NameAt.the-variants.{Found}
 use Rattle.names.specs.Bytes.{isUpper, fold1, keep1, kept, known, placeOf, noneTwice}
-use Rattle.names.specs.Table.{countOf, entryStart, entryAt, lengthOf, nameOf, namesFrom, namesOf, zeros, rightTable, learned}
-use Rattle.names.specs.Answers.{Done, done, numberOf, paperOf, valuesOf, isNew, placeAt, nameAt}
+use Rattle.names.specs.Table.{longest, most, entrySize, tableSize, countOf, entryStart, entryAt, lengthOf, nameOf, namesFrom, namesOf, zeros, rightTable, learned}
+use Rattle.names.specs.Answers.{countIn, valuesCount, Done, done, numberOf, paperOf, valuesOf, isNew, placeAt, nameAt}
 use Rattle.names.proofs.Bytes.{→same, kept-length, kept-folded}
-use Rattle.names.proofs.Lists.{known-last, place-kept, place-last, at-place, names-count, place-below, names-at}
+use Rattle.names.proofs.Lists.{non-no, known-last, place-kept, place-last, at-place, names-count, place-below, names-at}
 use Rattle.names.proofs.Entries.{short-at}
 use Rattle.names.proofs.Right.{right-size, right-count, right-short, make-right}
 use Rattle.names.proofs.Learning.{zeros-drop, learned-size, learned-count, learned-names, learned-right, entry-before, entry-past}
-
--- a test whose negation fails passes
-non-no : (b : Bool) → No (non b) → Yes b
-unfolding non
-non-no true n = refl
-non-no false n = absurd (true≢false n)
 
 -- ---- the five answers, and what led to each
 module _ (f : Bool) (t name : List ℕ) where
   pub answers : (P : Done → Type 0)
       → (No (rightTable f t) → P (done BadTable t))
-      → (Yes (rightTable f t) → 64 < length name → P (done NameTooLong t))
-      → (Yes (rightTable f t) → length name ≤ 64 → Yes (known (kept f name) (namesOf t)) → P (done (Known (placeOf (kept f name) (namesOf t))) t))
-      → (Yes (rightTable f t) → length name ≤ 64 → No (known (kept f name) (namesOf t)) → 256 ≤ countOf t → P (done NamesFull t))
-      → (Yes (rightTable f t) → length name ≤ 64 → No (known (kept f name) (namesOf t)) → countOf t < 256 → P (done (Learned (countOf t)) (learned t (kept f name))))
+      → (Yes (rightTable f t) → longest < length name → P (done NameTooLong t))
+      → (Yes (rightTable f t) → length name ≤ longest → Yes (known (kept f name) (namesOf t)) → P (done (Known (placeOf (kept f name) (namesOf t))) t))
+      → (Yes (rightTable f t) → length name ≤ longest → No (known (kept f name) (namesOf t)) → most ≤ countOf t → P (done NamesFull t))
+      → (Yes (rightTable f t) → length name ≤ longest → No (known (kept f name) (namesOf t)) → countOf t < most → P (done (Learned (countOf t)) (learned t (kept f name))))
       → P (numberOf f t name)
   unfolding numberOf
   answers P a b c d e =
       cond-both P _ _ (non (rightTable f t)) (λ n. a (non-yes (rightTable f t) n))
-      (λ y. cond-both P _ _ (ltb 64 (length name)) (λ h. b (non-no (rightTable f t) y) (ltb-true 64 (length name) h))
-      (λ h. cond-both P _ _ (known (kept f name) (namesOf t)) (λ k. c (non-no (rightTable f t) y) (ltb-false 64 (length name) h) k)
-      (λ k. cond-both P _ _ (leb 256 (countOf t)) (λ r. d (non-no (rightTable f t) y) (ltb-false 64 (length name) h) k (leb-true 256 (countOf t) r))
-      (λ r. e (non-no (rightTable f t) y) (ltb-false 64 (length name) h) k (leb-false 256 (countOf t) r)))))
+      (λ y. cond-both P _ _ (ltb longest (length name)) (λ h. b (non-no (rightTable f t) y) (ltb-true longest (length name) h))
+      (λ h. cond-both P _ _ (known (kept f name) (namesOf t)) (λ k. c (non-no (rightTable f t) y) (ltb-false longest (length name) h) k)
+      (λ k. cond-both P _ _ (leb most (countOf t)) (λ r. d (non-no (rightTable f t) y) (ltb-false longest (length name) h) k (leb-true most (countOf t) r))
+      (λ r. e (non-no (rightTable f t) y) (ltb-false longest (length name) h) k (leb-false most (countOf t) r)))))
 
   -- a known name's number, in a full table too
-  pub knows : Yes (rightTable f t) → length name ≤ 64 → Yes (known (kept f name) (namesOf t)) → numberOf f t name ≡ done (Known (placeOf (kept f name) (namesOf t))) t
+  pub knows : Yes (rightTable f t) → length name ≤ longest → Yes (known (kept f name) (namesOf t)) → numberOf f t name ≡ done (Known (placeOf (kept f name) (namesOf t))) t
   unfolding numberOf non
-  knows y h k = rw (y, le-ltb 64 (length name) h, k)
+  knows y h k = rw (y, le-ltb longest (length name) h, k)
 
   -- a new name that is short enough is learned while there is room, and only refused for want of it
-  pub learns : Yes (rightTable f t) → length name ≤ 64 → No (known (kept f name) (namesOf t)) → countOf t < 256 → numberOf f t name ≡ done (Learned (countOf t)) (learned t (kept f name))
+  pub learns : Yes (rightTable f t) → length name ≤ longest → No (known (kept f name) (namesOf t)) → countOf t < most → numberOf f t name ≡ done (Learned (countOf t)) (learned t (kept f name))
   unfolding numberOf non
-  learns y h k r = rw (y, le-ltb 64 (length name) h, k, lt-leb 256 (countOf t) r)
+  learns y h k r = rw (y, le-ltb longest (length name) h, k, lt-leb most (countOf t) r)
 
-  short : length name ≤ 64 → length (kept f name) ≤ 64
+  short : length name ≤ longest → length (kept f name) ≤ longest
   short h = omega (arith, kept-length f name)
 
   -- ---- learning keeps a right table right, and a wrong one wrong
@@ -101,7 +97,7 @@ name-place f t i y h = let e : 0 + i ≡ i = omega arith in entry-name f t i y h
 -- ---- what an answer with a number says: the number is the name's place in the table as the call leaves it
 pub record Placed (f : Bool) (name : List ℕ) (k : ℕ) (u : List ℕ) : Type 0 where
   pub right : Yes (rightTable f u)
-  pub fits : length name ≤ 64
+  pub fits : length name ≤ longest
   pub there : Yes (known (kept f name) (namesOf u))
   pub number : placeOf (kept f name) (namesOf u) ≡ k
 
@@ -131,14 +127,14 @@ module _ (f : Bool) (t name : List ℕ) where
       count = names-count t
 
   -- ---- numbers are below 256, and below the count
-  pub below-256 : (k : ℕ) → valuesOf (numberOf f t name .told) ≡ k ∷ [] → (k < countOf after) × (countOf after ≤ 256)
+  pub below-256 : (k : ℕ) → valuesOf (numberOf f t name .told) ≡ k ∷ [] → (k < countOf after) × (countOf after ≤ most)
   below-256 k e = let p = placed k e in (omega (arith, place-below after (kept f name) (p .there), p .number), right-count f after (p .right))
 
   -- ---- a name that has a number gets it again, in any case of its letters where the table folds
   pub asked-again : (x : List ℕ) (k : ℕ) → kept f x ≡ kept f name → valuesOf (numberOf f t name .told) ≡ k ∷ [] → numberOf f after x ≡ done (Known k) after
   asked-again x k q e =
       let p = placed k e in
-      let h : length x ≤ 64 = omega (arith, p .fits, kept-length f x, kept-length f name, ap length q) in
+      let h : length x ≤ longest = omega (arith, p .fits, kept-length f x, kept-length f name, ap length q) in
       knows f after x (p .right) h (rw q (p .there)) ∙ ap (λ (j : ℕ). done (Known j) after) (rw q (p .number))
 
   -- ---- the number's name is the name, as the table keeps it
@@ -188,21 +184,38 @@ back-again (Learned k) = refl
 pub paper-whole : (a b : Named) → paperOf a ≡ paperOf b → valuesOf a ≡ valuesOf b → isNew a ≡ isNew b → a ≡ b
 paper-whole a b p v n = sym (back-again a) ∙ rw (p, v, n) (back-again b)
 
+-- ---- the count of a right table is the number of its names, and its number and values say the whole answer
+pub how-many : (f : Bool) (t : List ℕ) → Yes (rightTable f t) → countIn f t ≡ Names (length (namesOf t))
+unfolding countIn non
+how-many f t y = rw (y, names-count t)
+
+from-count : List ℕ → Counted
+from-count [] = Spoiled
+from-count (n ∷ ns) = Names n
+
+count-again : (a : Counted) → from-count (valuesCount a) ≡ a
+unfolding from-count
+count-again Spoiled = refl
+count-again (Names n) = refl
+
+pub count-whole : (a b : Counted) → valuesCount a ≡ valuesCount b → a ≡ b
+count-whole a b e = sym (count-again a) ∙ ap from-count e ∙ count-again b
+
 -- ---- a name in another case of its letters is answered alike, the first time too
 pub same-letters : (f : Bool) (t x y : List ℕ) → kept f x ≡ kept f y → numberOf f t x ≡ numberOf f t y
 unfolding numberOf
 same-letters f t x y e = let l : length x ≡ length y = sym (kept-length f x) ∙ ap length e ∙ kept-length f y in rw (e, l)
 
 -- ---- a number's name is the part of the buffer that `placeAt` tells
-skip-length : (l : List ℕ) → drop 1 (take 65 l) ≡ take 64 (drop 1 l)
+skip-length : (l : List ℕ) → drop 1 (take entrySize l) ≡ take longest (drop 1 l)
 skip-length [] = refl
 skip-length (x ∷ xs) = refl
 
-part-of : (t : List ℕ) (i : ℕ) → lengthOf (entryAt t i) ≤ 64 → nameOf (entryAt t i) ≡ take (lengthOf (entryAt t i)) (drop (entryStart i + 1) t)
+part-of : (t : List ℕ) (i : ℕ) → lengthOf (entryAt t i) ≤ longest → nameOf (entryAt t i) ≡ take (lengthOf (entryAt t i)) (drop (entryStart i + 1) t)
 unfolding nameOf entryAt
 part-of t i h =
-    let n = lengthOf (take 65 (drop (entryStart i) t)) in
-    ap (take n) (skip-length (drop (entryStart i) t)) ∙ take-take n 64 (drop 1 (drop (entryStart i) t)) h ∙ ap (take n) (drop-drop 1 (entryStart i) t)
+    let n = lengthOf (take entrySize (drop (entryStart i) t)) in
+    ap (take n) (skip-length (drop (entryStart i) t)) ∙ take-take n longest (drop 1 (drop (entryStart i) t)) h ∙ ap (take n) (drop-drop 1 (entryStart i) t)
 
 module _ (f : Bool) (t : List ℕ) (i s l : ℕ) where
   abbrev Told : NameAt → Type 0
@@ -222,8 +235,8 @@ module _ (f : Bool) (t : List ℕ) (i s l : ℕ) where
       (λ y. cond-both Told _ _ (leb (countOf t) i) (λ h e. absurd (let z : _≡_ {A = ℕ} 0 1 = cc in omega arith)) (λ h. there-it-is (non-no (rightTable f t) y) (leb-false (countOf t) i h)))
 
 -- ---- a buffer of zeros is a right table with no names: where an adapter starts
-module _ (t : List ℕ) (l : length t ≡ 16642) (z : Yes (zeros t)) where
-  zero-at : (i : ℕ) → i < 16642 → getD t i 0 ≡ 0
+module _ (t : List ℕ) (l : length t ≡ tableSize) (z : Yes (zeros t)) where
+  zero-at : (i : ℕ) → i < tableSize → getD t i 0 ≡ 0
   unfolding zeros
   zero-at i h = eqb-true (getD t i 0) 0 (all→ (λ x. eqb x 0) z (mem-at t i 0 (omega arith)))
 

@@ -8,10 +8,24 @@ use lib.ListN.{length}
 use Rattle.lists.specs.Tests.{non}
 use Rattle.names.specs.declared.Named.{Named}
 use Rattle.names.specs.declared.Named.the-variants.{BadTable, NameTooLong, NamesFull, Known, Learned}
+use Rattle.names.specs.declared.Counted.{Counted}
+use Rattle.names.specs.declared.Counted.the-variants.{BadTable as Spoiled, Names}
 use Rattle.names.specs.declared.NameAt.{NameAt}
 use Rattle.names.specs.declared.NameAt.the-variants.{BadTable as NoTable, Nothing, Found}
 use Rattle.names.specs.Bytes.{kept, known, placeOf}
-use Rattle.names.specs.Table.{countOf, entryStart, entryAt, lengthOf, nameOf, namesOf, rightTable, learned}
+use Rattle.names.specs.Table.{longest, most, countOf, entryStart, entryAt, lengthOf, nameOf, namesOf, rightTable, learned}
+
+-- how many names a table has: 27, or the count
+unfoldable pub countIn : Bool → List ℕ → Counted
+countIn folding t = cond (non (rightTable folding t)) Spoiled (Names (countOf t))
+
+abbrev pub paperCount : Counted → ℕ
+paperCount Spoiled = 27
+paperCount (Names n) = 0
+
+abbrev pub valuesCount : Counted → List ℕ
+valuesCount Spoiled = []
+valuesCount (Names n) = n ∷ []
 
 -- the answer, and the buffer as the call leaves it
 pub record Done : Type 0 where
@@ -25,9 +39,9 @@ done n t = record { told = n; table = t }
 unfoldable pub numberOf : Bool → List ℕ → List ℕ → Done
 numberOf folding t name =
     cond (non (rightTable folding t)) (done BadTable t)
-    (cond (ltb 64 (length name)) (done NameTooLong t)
+    (cond (ltb longest (length name)) (done NameTooLong t)
     (cond (known (kept folding name) (namesOf t)) (done (Known (placeOf (kept folding name) (namesOf t))) t)
-    (cond (leb 256 (countOf t)) (done NamesFull t)
+    (cond (leb most (countOf t)) (done NamesFull t)
     (done (Learned (countOf t)) (learned t (kept folding name))))))
 
 -- document 01's number of each answer; 0 where it is none of the refusals

@@ -1,3 +1,4 @@
 pub mod Bytes
 pub mod Table
 pub mod Answers
+pub mod Code

@@ -1,25 +1,36 @@
 // Name tables in lent buffers: a name's number, and a number's name.
 // SPDX-License-Identifier: Apache-2.0
+mod twice;
+
 ghost use mathlib.Core.Path.{_≡_};
 ghost use mathlib.Core.Bool.{true};
-ghost use mathlib.Core.List.{_∷_, []};
-ghost use Prim.Native.Nat.{_+_, _-_, _*_, _/_, _%_, _≤_, _<_};
+ghost use mathlib.Core.List.{_∷_};
+ghost use Prim.Native.Nat.{_+_, _≤_, _<_};
 ghost use lib.ListN.{length};
 ghost use Rattle.lists.specs.Below.{allBelow};
-ghost use Rattle.names.specs.Bytes.{fold1, keep1, kept, folded, sameBytes, placeOf, noneTwice};
-ghost use Rattle.names.specs.Table.{countOf, entryStart, entryAt, lengthOf, nameOf, namesFrom, zeros, rightEntry, rightTable, shortNames, put};
-ghost use Rattle.names.specs.Answers.{done, numberOf, paperOf, placeAt, nameAt};
+ghost use Rattle.lists.specs.Places.{splice};
+ghost use Rattle.names.specs.Bytes.{fold1, keep1, kept, folded, sameBytes, placeOf};
+ghost use Rattle.names.specs.Table.{longest, most, entrySize, tableSize, countOf, countBytes, entryStart, entryAt, lengthOf, nameOf, namesFrom, zeros, rightEntry, rightTable};
+ghost use Rattle.names.specs.Code.{shortNames};
+ghost use Rattle.names.specs.Answers.{countIn, done, numberOf, paperOf, placeAt, nameAt};
 
 // A table: a count of two bytes, least first, and 256 entries of a length byte and 64 bytes.
-pub const SIZE: usize = 16642;
+pub const LONGEST: usize = 64;
 
 pub const MOST: usize = 256;
 
-pub const LONGEST: usize = 64;
+const ENTRY: usize = 1 + LONGEST;
 
 const FIRST: usize = 2;
 
-const ENTRY: usize = 65;
+pub const SIZE: usize = FIRST + MOST * ENTRY;
+
+// How many names a table has.
+pub enum Counted {
+    // 27
+    BadTable,
+    Names(u16),
+}
 
 // What a call for a name's number answers.
 pub enum Named {
@@ -115,15 +126,15 @@ fn is_zero(bytes: &[u8]) -> bool
 
 // At most 65535: the count is judged before it is used.
 fn count_of(table: &[u8]) -> usize
-    requires { ⌜ length (now table) ≡ 16642 ⌝ }
+    requires { ⌜ length (now table) ≡ tableSize ⌝ }
     ensures { λ r. ⌜ r ≡ countOf (now (table .entry)) ⌝ }
 {
     (table[0] as usize) + (table[1] as usize) * 256
 }
 
 // The entry of a number, at or past the count too.
-fn entry_of(table: &[u8], i: usize) -> &[u8]
-    requires { ⌜ (length (now table) ≡ 16642) × (i < 256) ⌝ }
+pub(crate) fn entry_of(table: &[u8], i: usize) -> &[u8]
+    requires { ⌜ (length (now table) ≡ tableSize) × (i < most) ⌝ }
     ensures { λ r. ⌜ now r ≡ entryAt (now (table .entry)) i ⌝ }
 {
     let start = FIRST + i * ENTRY;
@@ -132,8 +143,8 @@ fn entry_of(table: &[u8], i: usize) -> &[u8]
 }
 
 // The name in an entry whose length byte was judged.
-fn name_of(bytes: &[u8]) -> &[u8]
-    requires { ⌜ (length (now bytes) ≡ 65) × (lengthOf (now bytes) ≤ 64) ⌝ }
+pub(crate) fn name_of(bytes: &[u8]) -> &[u8]
+    requires { ⌜ (length (now bytes) ≡ entrySize) × (lengthOf (now bytes) ≤ longest) ⌝ }
     ensures { λ r. ⌜ now r ≡ nameOf (now (bytes .entry)) ⌝ }
 {
     let end = 1 + (bytes[0] as usize);
@@ -142,7 +153,7 @@ fn name_of(bytes: &[u8]) -> &[u8]
 
 // An entry below the count: its length first, since the rest is read by it.
 fn is_right(bytes: &[u8], folding: bool) -> bool
-    requires { ⌜ length (now bytes) ≡ 65 ⌝ }
+    requires { ⌜ length (now bytes) ≡ entrySize ⌝ }
     ensures { λ r. ⌜ r ≡ rightEntry folding (now (bytes .entry)) ⌝ }
 {
     let len = bytes[0] as usize;
@@ -161,7 +172,7 @@ fn is_right(bytes: &[u8], folding: bool) -> bool
 
 // Every entry below the count, so that the names can be read.
 fn all_right(table: &[u8], n: usize, folding: bool) -> bool
-    requires { ⌜ (length (now table) ≡ 16642) × (n ≤ 256) ⌝ }
+    requires { ⌜ (length (now table) ≡ tableSize) × (n ≤ most) ⌝ }
     ensures { λ r. ⌜ r ≡ allBelow n (λ i. rightEntry folding (entryAt (now (table .entry)) i)) ⌝ }
 {
     let mut i = 0;
@@ -174,12 +185,12 @@ fn all_right(table: &[u8], n: usize, folding: bool) -> bool
     true
 }
 
-// The number of the first entry from `from` on that has the name, or n.
-fn place_from(table: &[u8], name: &[u8], folding: bool, from: usize, n: usize) -> usize
-    requires { ⌜ (length (now table) ≡ 16642) × (from ≤ n) × (n ≤ 256) × (shortNames n (now table) ≡ true) ⌝ }
-    ensures { λ r. ⌜ r ≡ from + placeOf (kept folding (now (name .entry))) (namesFrom (now (table .entry)) from (n - from)) ⌝ }
+// The number of the first of n entries that has the name, or n.
+pub(crate) fn place_of(table: &[u8], name: &[u8], folding: bool, n: usize) -> usize
+    requires { ⌜ (length (now table) ≡ tableSize) × (n ≤ most) × (shortNames n (now table) ≡ true) ⌝ }
+    ensures { λ r. ⌜ r ≡ placeOf (kept folding (now (name .entry))) (namesFrom (now (table .entry)) 0 n) ⌝ }
 {
-    let mut i = from;
+    let mut i = 0;
     while i < n {
         if same_name(name_of(entry_of(table, i)), name, folding) {
             return i;
@@ -187,22 +198,6 @@ fn place_from(table: &[u8], name: &[u8], folding: bool, from: usize, n: usize) -
         i += 1;
     }
     i
-}
-
-// Each name against those after it. Stored names are compared as they are.
-fn none_twice(table: &[u8], n: usize) -> bool
-    requires { ⌜ (length (now table) ≡ 16642) × (n ≤ 256) × (shortNames n (now table) ≡ true) ⌝ }
-    ensures { λ r. ⌜ r ≡ noneTwice (namesFrom (now (table .entry)) 0 n) ⌝ }
-{
-    let mut i = 0;
-    while i < n {
-        let next = i + 1;
-        if place_from(table, name_of(entry_of(table, i)), false, next, n) < n {
-            return false;
-        }
-        i = next;
-    }
-    true
 }
 
 // 27: the size, the count, each entry, the bytes past the last one, no name twice.
@@ -223,13 +218,23 @@ pub fn check_table(table: &[u8], folding: bool) -> bool
     if !is_zero(&table[past..]) {
         return false;
     }
-    none_twice(table, n)
+    twice::none_twice(table, n)
+}
+
+// How many names the table has, 0 to 256.
+pub fn count(table: &[u8], folding: bool) -> Counted
+    ensures { λ r. ⌜ r ≡ countIn folding (now (table .entry)) ⌝ }
+{
+    if !check_table(table, folding) {
+        return Counted::BadTable;
+    }
+    Counted::Names(count_of(table) as u16)
 }
 
 // Writes the name into entry n and counts it. What the entry held past its new length stays: it is zero.
 fn learn(table: &mut [u8], name: &[u8], folding: bool, n: usize)
-    requires { ⌜ (length (now table) ≡ 16642) × (length (now name) ≤ 64) × (n < 256) ⌝ }
-    ensures { λ r. ⌜ now (table .exit) ≡ put (put (now (table .entry)) (entryStart n) (length (now (name .entry)) ∷ kept folding (now (name .entry)))) 0 ((n + 1) % 256 ∷ (n + 1) / 256 ∷ []) ⌝ }
+    requires { ⌜ (length (now table) ≡ tableSize) × (length (now name) ≤ longest) × (n < most) ⌝ }
+    ensures { λ r. ⌜ now (table .exit) ≡ splice (splice (now (table .entry)) (entryStart n) (length (now (name .entry)) ∷ kept folding (now (name .entry)))) 0 (countBytes (n + 1)) ⌝ }
 {
     let start = FIRST + n * ENTRY;
     table[start] = name.len() as u8;
@@ -254,7 +259,7 @@ pub fn number_of(table: &mut [u8], name: &[u8], folding: bool) -> Named
         return Named::NameTooLong;
     }
     let n = count_of(table);
-    let at = place_from(table, name, folding, 0, n);
+    let at = place_of(table, name, folding, n);
     if at < n {
         return Named::Known(at as u8);
     }

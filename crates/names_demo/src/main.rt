@@ -71,21 +71,21 @@ fn say(table: &mut [u8], what: &[u8], name: &[u8], folding: bool) {
 
 // A table that folds: 256 names, each again, and what a full table and a spoiled one answer.
 fn units() {
-    let mut table = [0u8; 16642];
-    label(b"learned", ask(&mut table, 256, false, true));
-    label(b"asked again", ask(&mut table, 256, true, false));
+    let mut table = [0u8; names::SIZE];
+    label(b"learned", ask(&mut table, names::MOST, false, true));
+    label(b"asked again", ask(&mut table, names::MOST, true, false));
     say(&mut table, b"one more:", b"Gateway", true);
     say(&mut table, b"an old one:", b"ecu-200", true);
     io::write_all(STDOUT_FILENO, names::name_at(&table, 42, true));
     io::write_all(STDOUT_FILENO, b"\n");
-    say(&mut table, b"65 bytes:", &[b'x'; 65], true);
-    table[16641] = 1;
+    say(&mut table, b"65 bytes:", &[b'x'; names::LONGEST + 1], true);
+    table[names::SIZE - 1] = 1;
     say(&mut table, b"a spoiled table:", b"ecu-200", true);
 }
 
 // A table that keeps the case.
 fn subjects() {
-    let mut table = [0u8; 16642];
+    let mut table = [0u8; names::SIZE];
     say(&mut table, b"a subject:", b"Tester", false);
     say(&mut table, b"in another case:", b"TESTER", false);
     say(&mut table, b"no bytes:", b"", false);

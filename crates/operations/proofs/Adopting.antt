@@ -3,49 +3,34 @@
 use mathlib.Core.Path.{_≡_, refl, sym, ap, _∙_}
 use mathlib.Core.Bool.{Bool, true, false, cond}
 use mathlib.Core.List.{List, [], _∷_, _++_, map}
-use mathlib.Core.Option.{Option, none, some}
 use Prim.Native.Nat.{ℕ, _+_, _-_, _≤_, _<_}
 use native.Mathlib.Omega.{arith}
-use lib.Dec.{eqb}
 use lib.ListN.{length, take, replicate, length-map}
-use Rattle.lists.specs.Tests.{_and_, _or_, non}
-use Rattle.lists.specs.Lists.{find, filter}
+use Rattle.lists.specs.Lists.{filter}
 use Rattle.lists.specs.Places.{inPlaces}
-use Rattle.lists.proofs.Tests.{by, and-t, and-f}
-use Rattle.coverage.specs.Coverage.{within}
 use Rattle.state.specs.declared.ActiveLock.{ActiveLock}
 use Rattle.state.specs.declared.LockState.{LockState}
 use Rattle.state.specs.Locks.{blankActive}
 use Rattle.state.specs.Model.{Model, modelOf, stateOf, full, Tidy}
 use Rattle.state.proofs.Laws.{active-count, defunct-count, defunct-in, model-of-state, tidy-of}
-use Rattle.operations.specs.declared.answers.Answer.{Answer}
-use Rattle.operations.specs.Answers.{isDone}
+use Rattle.operations.specs.Answers.{isDone, firstRefusal}
 use Rattle.operations.specs.Trees.{isListed}
-use Rattle.operations.specs.Checks.{unfitChild, toldChild, checkChildren, lastRevision}
+use Rattle.operations.specs.Checks.{checkChild, lastRevision}
 use Rattle.operations.specs.Insert.{insertedIn}
 use Rattle.operations.specs.Vehicle.{nest, adopt, adopting, vehicleIn, judgeVehicle}
-use Rattle.operations.specs.Code.{Placed, Ready, flagged, altered, misfit}
+use Rattle.operations.specs.Code.{Placed, Ready, flagged, altered}
 use Rattle.operations.proofs.Flags.{marked-filter, marks-front, alter-front}
 use Rattle.operations.proofs.Going.{placed-count}
 use Rattle.operations.proofs.Chains.{first-done, rest-done, revision-left}
 use Rattle.operations.proofs.Inserting.{room-left, defunct-room}
 
 module _ (p : ActiveLock → Bool) (x : ActiveLock) where
-  -- ---- the first that doesn't fit
-  find-kept : (l : List ActiveLock) → find (misfit x) (filter p l) ≡ find (unfitChild p x) l
-  unfolding unfitChild misfit
-  find-kept [] = refl
-  find-kept (a ∷ rs) = by (p a) (find (misfit x) (filter p (a ∷ rs)) ≡ find (unfitChild p x) (a ∷ rs))
-      (λ t. rw (t, and-t true (misfit x a) refl, find-kept rs))
-      (λ t. rw (t, and-f false (misfit x a) refl, find-kept rs))
-
+  -- ---- the first that is refused
   module _ (l : List ActiveLock) (n : ℕ) (takes : List Bool) (e : takes ≡ inPlaces 64 false (map p l)) (h : length l ≡ n) where
-    pub children-are : toldChild x (find (misfit x) (flagged (take n takes) l)) ≡ checkChildren p l x
-    unfolding checkChildren
+    pub children-are : firstRefusal (checkChild x) (flagged (take n takes) l) ≡ firstRefusal (checkChild x) (filter p l)
     children-are =
-        ap (λ (fs : List Bool). toldChild x (find (misfit x) (flagged fs l))) (marks-front n 64 p l takes e h)
-        ∙ ap (λ (s : List ActiveLock). toldChild x (find (misfit x) s)) (marked-filter p l)
-        ∙ ap (toldChild x) (find-kept l)
+        ap (λ (fs : List Bool). firstRefusal (checkChild x) (flagged fs l)) (marks-front n 64 p l takes e h)
+        ∙ ap (firstRefusal (checkChild x)) (marked-filter p l)
 
   -- ---- the marked ones are taken in
   alter-map : (l : List ActiveLock) → altered (nest x) (map p l) l ≡ map (adopt p x) l

@@ -19,7 +19,8 @@ use Rattle.lookups.specs.Reads.{onScope}
 use Rattle.operations.specs.declared.answers.Answer.{Answer}
 use Rattle.operations.specs.declared.answers.Answer.the-variants.{Done, DuplicateId, DuplicateScope, ParentNotFound, ParentNotVehicle, CoverageConflict, RevisionOverflow, OtherOwner, NotCovered, BadList}
 use Rattle.operations.specs.Answers.{isDone, refuseIf, andThen}
-use Rattle.operations.specs.Checks.{checkList, checkId, checkScope, checkParent, checkFound, checkNesting, conflicts, checkConflict, checkClear, checkRevision, atLast, lastRevision, toldChild}
+use Rattle.operations.specs.Checks.{checkList, checkId, checkScope, conflicts, checkConflict, checkClear, checkRevision, atLast, lastRevision, checkOwner, checkCover, checkChild}
+use Rattle.operations.specs.Code.{checkParent, checkFound, checkNesting}
 
 -- ---- the combinators
 module _ {A : Type 0} (c : Bool) (a b : A) where
@@ -156,10 +157,21 @@ module _ (l : List ActiveLock) (x : ActiveLock) where
   unfolding checkClear
   clear-miss h = sym (ap checkConflict h)
 
--- ---- a child that doesn't fit
+-- ---- 11.3, 11.4 of a child
 module _ (x a : ActiveLock) where
-  pub child-covered : x .lock .subject ≡ a .lock .subject → NotCovered (a .lock .id) (x .lock .id) ≡ toldChild x (some a)
-  child-covered e = rw (eq-eqb (x .lock .subject) (a .lock .subject) e)
+  pub child-owner : (x .lock .subject ≡ a .lock .subject → ⊥) → OtherOwner (a .lock .id) (x .lock .id) ≡ checkChild x a
+  unfolding checkChild checkOwner andThen isDone
+  child-owner n = sym (ap (λ (r : Answer). andThen r (checkCover x a)) (refuse _ _ _ (non-f _ (ne-eqb (x .lock .subject) (a .lock .subject) n))))
 
-  pub child-owner : (x .lock .subject ≡ a .lock .subject → ⊥) → OtherOwner (a .lock .id) (x .lock .id) ≡ toldChild x (some a)
-  child-owner e = rw (ne-eqb (x .lock .subject) (a .lock .subject) e)
+  module _ (s : x .lock .subject ≡ a .lock .subject) (w : Bool) (g : w ≡ within (a .lock .coverage) (x .lock .coverage)) where
+    child-own : checkChild x a ≡ checkCover x a
+    unfolding checkChild checkOwner andThen isDone
+    child-own = ap (λ (r : Answer). andThen r (checkCover x a)) (go-on _ _ _ (non-t _ (eq-eqb (x .lock .subject) (a .lock .subject) s)))
+
+    pub child-covered : not w ≡ true → NotCovered (a .lock .id) (x .lock .id) ≡ checkChild x a
+    unfolding checkCover
+    child-covered t = sym (child-own ∙ refuse _ _ _ (non-f _ (sym g ∙ not-true w t)))
+
+    pub child-fits : not w ≡ false → Done ≡ checkChild x a
+    unfolding checkCover
+    child-fits t = sym (child-own ∙ go-on _ _ _ (non-t _ (sym g ∙ not-false w t)))

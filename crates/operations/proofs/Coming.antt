@@ -15,8 +15,8 @@ use Rattle.ids.specs.Order.{key}
 use Rattle.state.specs.declared.ActiveLock.{ActiveLock}
 use Rattle.state.specs.declared.DefunctLock.{DefunctLock}
 use Rattle.state.specs.Locks.{dkey, blankDefunct}
-use Rattle.operations.specs.declared.table.Table.{Table}
-use Rattle.operations.specs.Table.{toDefunct, enterAll}
+use Rattle.operations.specs.declared.defuncts.Table.{Table}
+use Rattle.operations.specs.Defuncts.{toDefunct, enterAll}
 use Rattle.operations.specs.Code.{placeOf, entriesOf, tableOf, Laid}
 use Rattle.operations.proofs.Leaving.{laid-count, laid-of, entries-back}
 

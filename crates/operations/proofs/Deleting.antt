@@ -29,8 +29,7 @@ use Rattle.operations.specs.declared.trees.Split.{Split}
 use Rattle.operations.specs.Trees.{Parts, startParts, treeParts}
 use Rattle.operations.specs.Checks.{atLast}
 use Rattle.operations.specs.Code.{splitOf}
-use Rattle.operations.specs.Place.{asExpired}
-use Rattle.operations.specs.Delete.{treeOut, withoutTree, deleted, closedDelete, deleteFound, deleteOn, expired, closedExpire, expireFound, beginExpirationOn}
+use Rattle.operations.specs.Delete.{treeOut, withoutTree, deleted, closedDelete, deleteFound, deleteOn, expired, asExpired, expireFound, beginExpirationOn}
 use Rattle.operations.proofs.Closing.{closed-sound, closed-broken}
 
 -- ---- the tree of r out
@@ -72,7 +71,7 @@ module _ (s : LockState) (i : LockId) (w : brokenRule s ≡ Sound) where
   unfolding deleteOn
   deletion-of o f = rw (← f) (on-sound s _ _ (brokenRule s) refl w)
 
-  pub expiration-of : (now : ℕ) (o : Option ActiveLock) → find (hasId i) (modelOf s .active) ≡ o → expireFound s now o ≡ beginExpirationOn s i now
+  pub expiration-of : (now : ℕ) (o : Option ActiveLock) → find (hasId i) (modelOf s .active) ≡ o → expireFound s i now o ≡ beginExpirationOn s i now
   unfolding beginExpirationOn
   expiration-of now o f = rw (← f) (on-sound s _ _ (brokenRule s) refl w)
 
@@ -85,28 +84,17 @@ module _ (s : LockState) (i : LockId) where
   unfolding deleteFound
   there r = refl
 
-module _ (s : LockState) (now : ℕ) where
-  pub stale : expired expiration.Stale [] s ≡ expireFound s now none
+module _ (s : LockState) (i : LockId) (now : ℕ) where
+  pub stale : expired expiration.Stale [] s ≡ expireFound s i now none
   unfolding expireFound
   stale = refl
 
   module _ (r : ActiveLock) where
-    pub not-due : ltb now (r .expires) ≡ true → expired (expiration.NotDue (r .expires)) [] s ≡ expireFound s now (some r)
+    pub not-due : ltb now (r .expires) ≡ true → expired (expiration.NotDue (r .expires)) [] s ≡ expireFound s i now (some r)
     unfolding expireFound
     not-due e = rw e
 
     -- "else as delete"
-    pub due : (i : LockId) → ltb now (r .expires) ≡ false → asExpired (deleteFound s i (some r)) ≡ expireFound s now (some r)
-    unfolding expireFound deleteFound closedDelete closedExpire
-    due i e = rw e (go (atLast (s .revision)) (isSound (brokenRule n)))
-      where
-        g : List ActiveLock
-        g = treeOut (modelOf s) r .gone
-
-        n : LockState
-        n = stateOf (withoutTree (modelOf s) r)
-
-        go : (a b : Bool) → asExpired (cond a (deleted deletion.RevisionOverflow [] s) (cond b (deleted deletion.Done g n) (deleted deletion.Invariant [] s))) ≡ cond a (expired expiration.RevisionOverflow [] s) (cond b (expired expiration.Done g n) (expired expiration.Invariant [] s))
-        go true b = refl
-        go false true = refl
-        go false false = refl
+    pub due : brokenRule s ≡ Sound → find (hasId i) (modelOf s .active) ≡ some r → ltb now (r .expires) ≡ false → asExpired (deleteFound s (r .lock .id) (some r)) ≡ expireFound s i now (some r)
+    unfolding expireFound
+    due w f e = rw e (ap asExpired (there s i r ∙ deletion-of s i w (some r) f))

@@ -14,7 +14,7 @@ use Rattle.state.specs.declared.LockState.{LockState}
 use Rattle.state.specs.Locks.{hasId, blankActive}
 use Rattle.state.specs.Model.{modelOf, Tidy}
 use Rattle.state.proofs.Laws.{active-count}
-use Rattle.operations.specs.Place.{placeIn}
+use Rattle.operations.specs.Code.{placeIn}
 
 module _ (s : LockState) (k : ℕ) (h : k < s .actives) where
   pub active-at : getD (modelOf s .active) k blankActive ≡ getD (s .active) k blankActive

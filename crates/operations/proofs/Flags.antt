@@ -78,27 +78,6 @@ module _ {A : Type 0} where
     pub sift-in : getD goes i false ≡ false → unflagged (take (i + 1) goes) (take (i + 1) l) ≡ unflagged (take i goes) (take i l) ++ (getD l i d ∷ [])
     sift-in e = rw (more goes i false h, more l i d k, e) (last-in (take i goes) (take i l) (getD l i d) even)
 
-  -- ---- a search among what is marked
-  module _ (q : A → Bool) (fs : List Bool) (l : List A) (n i : ℕ) (d : A) (h : i < n) (a : n ≤ length fs) (b : n ≤ length l) (m : Bool) (e : m ≡ q (getD l i d)) where
-    pub marked-yes : (getD fs i false && m) ≡ true → find q (flagged (slice i n fs) (slice i n l)) ≡ some (getD l i d)
-    marked-yes t = rw (rest-step fs n i false h a, rest-step l n i d h b) (go (getD fs i false) m e t)
-      where
-        go : (c m : Bool) → m ≡ q (getD l i d) → (c && m) ≡ true → find q (cond c (getD l i d ∷ flagged (slice (i + 1) n fs) (slice (i + 1) n l)) (flagged (slice (i + 1) n fs) (slice (i + 1) n l))) ≡ some (getD l i d)
-        go true true e t = rw (← e)
-        go true false e t = absurd (false≢true t)
-        go false m e t = absurd (false≢true t)
-
-    pub marked-no : (getD fs i false && m) ≡ false → find q (flagged (slice i n fs) (slice i n l)) ≡ find q (flagged (slice (i + 1) n fs) (slice (i + 1) n l))
-    marked-no t = rw (rest-step fs n i false h a, rest-step l n i d h b) (go (getD fs i false) m e t)
-      where
-        go : (c m : Bool) → m ≡ q (getD l i d) → (c && m) ≡ false → find q (cond c (getD l i d ∷ flagged (slice (i + 1) n fs) (slice (i + 1) n l)) (flagged (slice (i + 1) n fs) (slice (i + 1) n l))) ≡ find q (flagged (slice (i + 1) n fs) (slice (i + 1) n l))
-        go true true e t = absurd (true≢false t)
-        go true false e t = rw (← e)
-        go false m e t = refl
-
-  pub marked-end : (q : A → Bool) (fs : List Bool) (l : List A) (n i : ℕ) → i ≤ n → n ≤ i → find q (flagged (slice i n fs) (slice i n l)) ≡ none
-  marked-end q fs l n i h k = let e : i ≡ n = omega arith in rw (e, slice-empty n fs)
-
   -- ---- marks that a test gives
   pub flagged-by : (p : A → Bool) (goes : List Bool) (l : List A) (d : A) → length l ≤ length goes → ((j : ℕ) → j < length l → getD goes j false ≡ p (getD l j d)) → flagged goes l ≡ filter p l
   flagged-by p [] [] d h f = refl

@@ -1,7 +1,7 @@
 -- An insertion: room for one more, the new lists in their places, and the answer from the judgement and the change.
 -- Assumes nothing.
 use mathlib.Core.Path.{_≡_, refl, sym, ap, _∙_}
-use mathlib.Core.Bool.{Bool, true, false, not, true≢false}
+use mathlib.Core.Bool.{Bool, true, false, not, cond, true≢false}
 use mathlib.Core.List.{List}
 use Prim.Native.Nat.{ℕ, suc, _+_, _≤_, _<_}
 use native.Mathlib.Omega.{arith}
@@ -29,16 +29,16 @@ use Rattle.lookups.proofs.Verdicts.{on-broken, on-sound}
 use Rattle.operations.specs.declared.answers.Answer.{Answer}
 use Rattle.operations.specs.declared.answers.Answer.the-variants.{Done, NoRoom, Invariant, UnsoundState}
 use Rattle.operations.specs.declared.answers.Inserted.{Inserted}
-use Rattle.operations.specs.declared.table.Table.{Table}
+use Rattle.operations.specs.declared.defuncts.Table.{Table}
 use Rattle.operations.specs.Answers.{isDone, refuseIf, andThen}
-use Rattle.operations.specs.Table.{superseded, supersede}
-use Rattle.operations.specs.Checks.{checkId, checkInsert, checkRevision, checkRoom, lastRevision}
-use Rattle.operations.specs.Insert.{insertedIn, judgeInsert, inserted, closedInsert, settledInsert}
-use Rattle.operations.specs.Code.{Placed, Ready, placeOf, entriesOf, tableOf, Laid, Ranked}
+use Rattle.operations.specs.Defuncts.{superseded, supersede}
+use Rattle.operations.specs.Checks.{checkRevision, checkRoom, lastRevision}
+use Rattle.operations.specs.Insert.{insertedIn, inserted, closedInsert, settledInsert}
+use Rattle.operations.specs.Code.{Placed, Ready, placeOf, entriesOf, tableOf, Laid, Ranked, judgeBundled, insertedBy}
 use Rattle.operations.proofs.Going.{placed-count}
 use Rattle.operations.proofs.Leaving.{supersede-le, supersede-none, entries-back, laid-of}
 use Rattle.operations.proofs.Coming.{place-le, put-in}
-use Rattle.operations.proofs.Closing.{closed-sound, closed-broken}
+use Rattle.operations.proofs.Closing.{lists-test, closed-sound, closed-broken}
 use Rattle.operations.proofs.Chains.{refuse, go-on, first-done, rest-done, revision-left}
 
 -- ---- a lock in its place
@@ -127,21 +127,21 @@ module _ (s : LockState) (h : Ready s) (x : ActiveLock) (a : List ActiveLock) (f
 
 -- ---- the answer: refused, or changed and tested again
 module _ (s n : LockState) (v : Verdict) (e : v ≡ brokenRule n) where
-  pub closed-yes : v ≡ Sound → inserted Done n ≡ closedInsert s n
-  unfolding closedInsert
+  pub closed-yes : v ≡ Sound → inserted Done n ≡ insertedBy s n
+  unfolding insertedBy
   closed-yes f = sym (closed-sound n (inserted Done n) (inserted Invariant s) v e f)
 
-  pub closed-no : (k : ℕ) → v ≡ Broken k → inserted Invariant s ≡ closedInsert s n
-  unfolding closedInsert
+  pub closed-no : (k : ℕ) → v ≡ Broken k → inserted Invariant s ≡ insertedBy s n
+  unfolding insertedBy
   closed-no k f = sym (closed-broken n (inserted Done n) (inserted Invariant s) v e k f)
 
 -- j is the judgement of the state s, m the change, a what the judge answered
 module _ (s : LockState) (j : Answer) (m : Model) (v : Verdict) (e : v ≡ brokenRule s) where
   abbrev answered : Inserted
-  answered = onSound s (λ n. inserted (UnsoundState n) s) (settledInsert j s m)
+  answered = onSound s (λ n. inserted (UnsoundState n) s) (settledInsert full j s m)
 
   pub put-broken : (n : ℕ) → v ≡ Broken n → inserted (UnsoundState n) s ≡ answered
-  put-broken n f = on-broken s (λ n. inserted (UnsoundState n) s) (settledInsert j s m) v n e f
+  put-broken n f = on-broken s (λ n. inserted (UnsoundState n) s) (settledInsert full j s m) v n e f
 
   module _ (f : v ≡ Sound) where
     module _ (a : Answer) (g : a ≡ j) (d : Bool) (h : d ≡ isDone a) where
@@ -149,21 +149,21 @@ module _ (s : LockState) (j : Answer) (m : Model) (v : Verdict) (e : v ≡ broke
       unfolding settledInsert
       put-refused t =
           let u : isDone j ≡ false = ap isDone (sym g) ∙ sym h ∙ not-true d t in
-          ap (λ (b : Answer). inserted b s) g ∙ sym (cond-false (isDone j) (closedInsert s (stateOf m)) (inserted j s) u) ∙ on-sound s (λ n. inserted (UnsoundState n) s) (settledInsert j s m) v e f
+          ap (λ (b : Answer). inserted b s) g ∙ sym (cond-false (isDone j) (closedInsert full s m) (inserted j s) u) ∙ on-sound s (λ n. inserted (UnsoundState n) s) (settledInsert full j s m) v e f
 
       module _ (t : not d ≡ false) where
         pub put-allowed : isDone j ≡ true
         put-allowed = ap isDone (sym g) ∙ sym h ∙ not-false d t
 
-        pub put-done : (n : LockState) (r : Inserted) → n ≡ stateOf m → r ≡ closedInsert s n → r ≡ answered
-        unfolding settledInsert
+        pub put-done : (n : LockState) (r : Inserted) → n ≡ stateOf m → r ≡ insertedBy s n → r ≡ answered
+        unfolding settledInsert closedInsert insertedBy
         put-done n r k z =
-            z ∙ ap (closedInsert s) k ∙ sym (cond-true (isDone j) (closedInsert s (stateOf m)) (inserted j s) put-allowed) ∙ on-sound s (λ n. inserted (UnsoundState n) s) (settledInsert j s m) v e f
+            z ∙ ap (insertedBy s) k ∙ ap (λ (b : Bool). cond b (inserted Done (stateOf m)) (inserted Invariant s)) (lists-test m) ∙ sym (cond-true (isDone j) (closedInsert full s m) (inserted j s) put-allowed) ∙ on-sound s (λ n. inserted (UnsoundState n) s) (settledInsert full j s m) v e f
 
 -- ---- insert_active: what the judgement leaves
-module _ (s : LockState) (k : Tidy s) (x : ActiveLock) (t : isDone (judgeInsert full (modelOf s) x) ≡ true) where
+module _ (s : LockState) (k : Tidy s) (x : ActiveLock) (t : isDone (judgeBundled full (modelOf s) x) ≡ true) where
   pub insert-allowed : (s .actives < 64) × (s .revision ≡ lastRevision → ⊥)
-  unfolding judgeInsert
+  unfolding judgeBundled
   insert-allowed =
       let r = rest-done _ _ (rest-done _ _ t) in
       (room-left (modelOf s) x (s .actives) (active-count s k) (k .active) (defunct-room s k) (rest-done _ _ r), revision-left (s .revision) (first-done _ _ r))

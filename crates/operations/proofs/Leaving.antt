@@ -26,8 +26,8 @@ use Rattle.state.specs.declared.DefunctLock.{DefunctLock}
 use Rattle.state.specs.declared.Lock.{Lock}
 use Rattle.state.specs.Locks.{dkey, hasIdD, blankDefunct}
 use Rattle.state.proofs.Laws.{back, length-places}
-use Rattle.operations.specs.declared.table.Table.{Table}
-use Rattle.operations.specs.Table.{redirect, other, dropEntry, dropFound, removeD, removeAll, superseded, supersede}
+use Rattle.operations.specs.declared.defuncts.Table.{Table}
+use Rattle.operations.specs.Defuncts.{redirect, other, dropEntry, dropFound, removeD, removeAll, superseded, supersede}
 use Rattle.operations.specs.Code.{flagged, unflagged, tookOver, handStep, handOn, entriesOf, tableOf, Laid, Ranked}
 use Rattle.operations.proofs.Flags.{flag-yes, flag-no, unflag-no, unflag-map, flagged-by, keep-all, mapped, mapped-read, mapped-set, mapped-same, mapped-front}
 

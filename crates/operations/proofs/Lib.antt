@@ -7,9 +7,11 @@ pub mod Coming
 pub mod Chains
 pub mod Inserting
 pub mod Finding
+pub mod Refusing
 pub mod Listing
 pub mod Adopting
 pub mod Ordering
+pub mod Bundles
 pub mod Replacing
 pub mod Closing
 pub mod Renewing

@@ -1,4 +1,4 @@
--- Ids of a list against the active locks: the lowest that a test picks, and which locks are listed.
+-- Ids of a list against the active locks: what the check of one id says, and the lowest that is refused.
 -- Assumes nothing.
 use mathlib.Core.Path.{_≡_, refl, sym, ap, _∙_}
 use mathlib.Core.Bool.{Bool, true, false, not, cond, _&&_, _||_}
@@ -10,20 +10,23 @@ use lib.ListN.{length, getD, take}
 use lib.Seq.{slice}
 use borrow.Author.Tests.{not-true, not-false}
 use Rattle.lists.specs.Tests.{_and_, _or_, non}
-use Rattle.lists.specs.Lists.{any, filter}
-use Rattle.lists.proofs.Tests.{by, codes, and-code, non-t, non-f, non-code, or-f, or-r, or-comm}
+use Rattle.lists.specs.Lists.{any}
+use Rattle.lists.proofs.Tests.{by, codes, and-code, and-l, non-t, non-f}
+use Rattle.lists.proofs.Lists.{any→, →any}
 use Rattle.lists.proofs.Loops.{any-yes, any-no, any-end}
 use Rattle.ids.specs.declared.LockId.{LockId}
 use Rattle.ids.specs.Order.{beforeId}
-use Rattle.ids.specs.Words.{idsOf, lowestOf}
-use Rattle.ids.proofs.Words.{idAt, bestOf, onFrom, lowestWhere, skip-id, take-id, keep-id, end-ids}
+use Rattle.ids.specs.Words.{ascendingIds}
+use Rattle.ids.proofs.Words.{idAt, bestOf, onFrom, lowestWhere, skip-id, keep-id, end-ids}
 use Rattle.state.specs.declared.ActiveLock.{ActiveLock}
 use Rattle.state.specs.Locks.{isVehicle, hasId}
 use Rattle.operations.specs.declared.answers.Answer.{Answer}
 use Rattle.operations.specs.declared.answers.Answer.the-variants.{Done, ActiveLockNotFound, NotRootVehicle, BadChild}
-use Rattle.operations.specs.Answers.{refuseIf}
-use Rattle.operations.specs.Checks.{checkRoot, missing, settledLock, unfitId, toldListed, checkListed, toldRoot, checkRoots}
+use Rattle.operations.specs.Answers.{isDone, refuseIf, andThen, firstRefusal}
+use Rattle.operations.specs.Checks.{checkRoot, missing, checkActive, settledLock, checkFree, checkListed}
+use Rattle.operations.specs.Code.{checkNamed}
 use Rattle.operations.proofs.Chains.{refuse, go-on}
+use Rattle.operations.proofs.Refusing.{refuses, toldBy, named-first}
 
 -- ---- 11.1
 module _ (x : ActiveLock) (v : Bool) (e : v ≡ isVehicle (x .lock .scope)) where
@@ -38,35 +41,57 @@ module _ (x : ActiveLock) (v : Bool) (e : v ≡ isVehicle (x .lock .scope)) wher
   unfolding checkRoot
   root-no t = sym (go-on _ _ _ (sym root-is ∙ t))
 
--- ---- an id that is missing, or whose lock can't be a child
+-- ---- 3
+module _ (l : List ActiveLock) (i : LockId) (u : Bool) (e : u ≡ any (hasId i) l) where
+  pub active-yes : u ≡ true → Done ≡ checkActive l i
+  unfolding checkActive missing
+  active-yes t = sym (go-on _ _ _ (non-t _ (sym e ∙ t)))
+
+  pub active-no : u ≡ false → ActiveLockNotFound i ≡ checkActive l i
+  unfolding checkActive missing
+  active-no t = sym (refuse _ _ _ (non-f _ (sym e ∙ t)))
+
+-- ---- 3, 11.2: an id that is missing, or whose lock can't be a child
 module _ (i : LockId) where
   abbrev pub stuck : ActiveLock → Bool
   stuck a = hasId i a and settledLock a
+
+  module _ (l : List ActiveLock) where
+    stuck-there : any stuck l ≡ true → any (hasId i) l ≡ true
+    stuck-there t = let w = any→ stuck l t in →any (hasId i) (w .1) (and-l _ _ (w .2))
+
+    is-bad : any stuck l ≡ true → BadChild i ≡ checkListed l i
+    unfolding checkListed checkFree andThen isDone
+    is-bad t = sym (ap (λ (a : Answer). andThen a (checkFree l i)) (sym (active-yes l i _ refl (stuck-there t))) ∙ refuse _ _ _ t)
+
+    is-free : any (hasId i) l ≡ true → any stuck l ≡ false → Done ≡ checkListed l i
+    unfolding checkListed checkFree andThen isDone
+    is-free t f = sym (ap (λ (a : Answer). andThen a (checkFree l i)) (sym (active-yes l i _ refl t)) ∙ go-on _ _ _ f)
+
+    is-missing : any (hasId i) l ≡ false → ActiveLockNotFound i ≡ checkListed l i
+    unfolding checkListed andThen isDone
+    is-missing t = sym (ap (λ (a : Answer). andThen a (checkFree l i)) (sym (active-no l i _ refl t)))
 
   module _ (l : List ActiveLock) (n k : ℕ) (q : any stuck (slice k n l) ≡ any stuck (take n l)) where
     module _ (d : ActiveLock) (g : k < n) (w : n ≤ length l) (h s : Bool) (e : h ≡ hasId i (getD l k d)) (f : s ≡ settledLock (getD l k d)) where
       here : (h && s) ≡ stuck (getD l k d)
       here = rw (e, f) (and-code (hasId i (getD l k d)) (settledLock (getD l k d)))
 
-      pub unfit-here : (h && s) ≡ true → true ≡ unfitId (take n l) i
-      unfolding unfitId
-      unfit-here t = sym (last (missing (take n l) i) (sym q ∙ any-yes stuck l n k d g w (sym here ∙ t)))
-        where
-          last : (b : Bool) → any stuck (take n l) ≡ true → (b or any stuck (take n l)) ≡ true
-          last b u = or-r b (any stuck (take n l)) u
+      pub listed-bad : (h && s) ≡ true → BadChild i ≡ checkListed (take n l) i
+      listed-bad t = is-bad (take n l) (sym q ∙ any-yes stuck l n k d g w (sym here ∙ t))
 
-      pub unfit-next : (h && s) ≡ false → any stuck (slice (k + 1) n l) ≡ any stuck (take n l)
-      unfit-next t = sym (any-no stuck l n k d g w (sym here ∙ t)) ∙ q
+      pub listed-next : (h && s) ≡ false → any stuck (slice (k + 1) n l) ≡ any stuck (take n l)
+      listed-next t = sym (any-no stuck l n k d g w (sym here ∙ t)) ∙ q
 
-    pub unfit-end : k ≤ n → n ≤ k → (there : Bool) → there ≡ any (hasId i) (take k l) → not there ≡ unfitId (take n l) i
-    unfolding unfitId missing
-    unfit-end g w there e =
-        let z : k ≡ n = omega arith in
-        let r : any stuck (take n l) ≡ false = sym q ∙ any-end stuck l n k g w in
-        non-code there ∙ ap non (e ∙ ap (λ (m : ℕ). any (hasId i) (take m l)) z) ∙ sym (or-f-r (non (any (hasId i) (take n l))) r)
-      where
-        or-f-r : (b : Bool) → any stuck (take n l) ≡ false → (b or any stuck (take n l)) ≡ b
-        or-f-r b u = rw u (or-comm b false ∙ or-f false b refl)
+    module _ (g : k ≤ n) (w : n ≤ k) (there : Bool) (e : there ≡ any (hasId i) (take k l)) where
+      known : there ≡ any (hasId i) (take n l)
+      known = let z : k ≡ n = omega arith in e ∙ ap (λ (m : ℕ). any (hasId i) (take m l)) z
+
+      pub listed-free : there ≡ true → Done ≡ checkListed (take n l) i
+      listed-free t = is-free (take n l) (sym known ∙ t) (sym q ∙ any-end stuck l n k g w)
+
+      pub listed-missing : there ≡ false → ActiveLockNotFound i ≡ checkListed (take n l) i
+      listed-missing t = is-missing (take n l) (sym known ∙ t)
 
 -- ---- the lowest id that the test p picks
 module _ (p : LockId → Bool) (ws : List ℕ) (f : Bool) (b : LockId) (j : ℕ) where
@@ -83,29 +108,17 @@ module _ (p : LockId → Bool) (ws : List ℕ) (f : Bool) (b : LockId) (j : ℕ)
     lowest-some t = sym (end-ids p ws f b j h e) ∙ ap (λ (g : Bool). bestOf g b) t
 
 -- ---- what is told of it
-module _ (l : List ActiveLock) (ws : List ℕ) where
-  pub listed-none : lowestWhere (unfitId l) ws ≡ none → Done ≡ checkListed l ws
-  unfolding checkListed
-  listed-none e = sym (ap (toldListed l) e)
+module _ (child : Bool) (l : List ActiveLock) (ws : List ℕ) where
+  pub ids-none : lowestWhere (refuses (checkNamed child l)) ws ≡ none → Done ≡ firstRefusal (checkNamed child l) (ascendingIds ws)
+  ids-none e = sym (named-first l child ws ∙ ap (toldBy (checkNamed child l)) e)
 
-  module _ (b : LockId) (e : lowestWhere (unfitId l) ws ≡ some b) (u : Bool) (f : u ≡ any (hasId b) l) where
-    pub listed-bad : u ≡ true → BadChild b ≡ checkListed l ws
-    unfolding checkListed missing
-    listed-bad t = sym (ap (toldListed l) e ∙ ap (λ (c : Bool). cond c (ActiveLockNotFound b) (BadChild b)) (non-t (any (hasId b) l) (sym f ∙ t)))
+  pub ids-some : (b : LockId) (r : Answer) → lowestWhere (refuses (checkNamed child l)) ws ≡ some b → r ≡ checkNamed child l b → r ≡ firstRefusal (checkNamed child l) (ascendingIds ws)
+  ids-some b r e f = f ∙ sym (named-first l child ws ∙ ap (toldBy (checkNamed child l)) e)
 
-    pub listed-missing : u ≡ false → ActiveLockNotFound b ≡ checkListed l ws
-    unfolding checkListed missing
-    listed-missing t = sym (ap (toldListed l) e ∙ ap (λ (c : Bool). cond c (ActiveLockNotFound b) (BadChild b)) (non-f (any (hasId b) l) (sym f ∙ t)))
+  -- what the code's check of one id says
+  module _ (i : LockId) (a : Answer) (e : a ≡ checkNamed child l i) (d : Bool) (f : d ≡ isDone a) where
+    pub id-refused : not d ≡ true → refuses (checkNamed child l) i ≡ true
+    id-refused t = non-f _ (ap isDone (sym e) ∙ sym f ∙ not-true d t)
 
-  pub roots-none : lowestWhere (missing l) ws ≡ none → Done ≡ checkRoots l ws
-  unfolding checkRoots
-  roots-none e = sym (ap toldRoot e)
-
-  pub roots-some : (b : LockId) → lowestWhere (missing l) ws ≡ some b → ActiveLockNotFound b ≡ checkRoots l ws
-  unfolding checkRoots
-  roots-some b e = sym (ap toldRoot e)
-
-  -- the code's test of a missing id
-  pub missing-is : (i : LockId) (u : Bool) → u ≡ any (hasId i) l → (b : Bool) → u ≡ b → missing l i ≡ non b
-  unfolding missing
-  missing-is i u e b f = ap non (sym e ∙ f)
+    pub id-passed : not d ≡ false → refuses (checkNamed child l) i ≡ false
+    id-passed t = non-t _ (ap isDone (sym e) ∙ sym f ∙ not-false d t)

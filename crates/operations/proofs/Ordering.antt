@@ -18,7 +18,7 @@ use Rattle.state.specs.Locks.{akey, dkey, hasId}
 use Rattle.state.specs.Model.{Model, Limits}
 use Rattle.rules.specs.Rules.{hasD, inOrder, rule1}
 use Rattle.lookups.specs.Reads.{narrow}
-use Rattle.operations.specs.Table.{toDefunct, enterAll}
+use Rattle.operations.specs.Defuncts.{toDefunct, enterAll}
 use Rattle.operations.specs.Trees.{Parts, childOf, takeParts, treeParts, rootParts, cutAll, rootsParts, startParts, isListed}
 
 -- no id twice

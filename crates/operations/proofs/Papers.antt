@@ -3,7 +3,9 @@
 use mathlib.Core.List.{List, [], _∷_}
 use mathlib.Core.Path.{_≡_, refl}
 use Prim.Native.Nat.{ℕ}
-use Rattle.lookups.proofs.Papers.{pick, one-to-one, valueAt, idAt}
+use Rattle.lists.specs.Papers.{Paper}
+use Rattle.lists.proofs.Papers.{pick, one-to-one, valueAt}
+use Rattle.lookups.proofs.Papers.{idAt}
 use Rattle.operations.specs.declared.answers.Answer.{Answer}
 use Rattle.operations.specs.declared.answers.Answer.the-variants.{Done, DuplicateId, DuplicateScope, ActiveLockNotFound, ParentNotFound, ParentNotVehicle, ReplacementScopeConflict, CoverageConflict, RevisionOverflow, NotRootVehicle, BadChild, OtherOwner, NotCovered, Invariant, UnsoundState, NoRoom, BadList}
 use Rattle.operations.specs.declared.answers.Renewal.{Renewal}
@@ -16,7 +18,6 @@ use Rattle.operations.specs.declared.answers.Acknowledgement.{Acknowledg
 use Rattle.operations.specs.declared.answers.Acknowledgement.the-variants as acknowledgement
 use Rattle.operations.specs.declared.answers.DefunctExpiry.{DefunctExpiry}
 use Rattle.operations.specs.declared.answers.DefunctExpiry.the-variants as expiry
-use Rattle.lookups.specs.Papers.{Paper}
 use Rattle.operations.specs.Answers.{paperOf, renewalPaper, deletionPaper, expirationPaper, acknowledgementPaper, expiryPaper}
 
 -- ---- insertions and replacement

@@ -32,8 +32,8 @@ use Rattle.operations.specs.declared.answers.Renewed.{Renewed}
 use Rattle.operations.proofs.answers.Renewal.{the-type}
 use Rattle.operations.specs.Answers.{refuseIf}
 use Rattle.operations.specs.Checks.{atLast}
-use Rattle.operations.specs.Place.{placeIn, judgeLock}
-use Rattle.operations.specs.Renew.{extended, extendAt, renewedIn, judgeFound, judgeRenew, renewed, closedRenew, settledRenew, renewOn}
+use Rattle.operations.specs.Code.{placeIn}
+use Rattle.operations.specs.Renew.{extended, extendAt, renewedIn, judgeLock, judgeFound, judgeRenew, renewed, closedRenew, settledRenew, renewOn}
 
 -- ---- the judge's answer
 -- every answer but Done keeps the state; the code tells them by their tags

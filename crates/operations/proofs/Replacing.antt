@@ -9,7 +9,7 @@ use lib.Dec.{eqb, ltb, leb}
 use lib.ListN.{length, take, length-map}
 use borrow.Author.Tests.{eqb-true, eqb-false, ltb-true, ltb-false, le-leb, lt-leb, not-true, not-false}
 use Rattle.lists.specs.Tests.{_and_, _or_, non, Yes}
-use Rattle.lists.specs.Lists.{any, find, insertBy, ascending}
+use Rattle.lists.specs.Lists.{any, filter, insertBy, ascending}
 use Rattle.lists.specs.Places.{inPlaces}
 use Rattle.lists.proofs.Tests.{by as cases, and-f, and-t, non-t, non-f, or-t, or-f, or-no, or-code, codes, cond-true, cond-false}
 use Rattle.lists.proofs.Lists.{length-insert}
@@ -27,22 +27,23 @@ use Rattle.lookups.proofs.Verdicts.{on-broken, on-sound}
 use Rattle.operations.specs.declared.answers.Answer.{Answer}
 use Rattle.operations.specs.declared.answers.Answer.the-variants.{Done, ReplacementScopeConflict, NoRoom, Invariant, UnsoundState}
 use Rattle.operations.specs.declared.answers.Replaced.{Replaced}
-use Rattle.operations.specs.declared.table.Table.{Table}
+use Rattle.operations.specs.declared.defuncts.Table.{Table}
 use Rattle.operations.specs.declared.trees.Split.{Split}
-use Rattle.operations.specs.Answers.{isDone, refuseIf, andThen}
-use Rattle.operations.specs.Table.{toDefunct, enterAll, supersede}
+use Rattle.operations.specs.Answers.{isDone, refuseIf, andThen, firstRefusal}
+use Rattle.operations.specs.Defuncts.{toDefunct, enterAll, supersede}
 use Rattle.operations.specs.Trees.{Parts}
-use Rattle.operations.specs.Checks.{checkList, checkEntry, checkInsert, checkRevision, checkChildren, checkRoom, outside, checkHolder, toldChild, lastRevision}
+use Rattle.operations.specs.Checks.{checkList, checkRevision, checkChild, checkRoom, outside, checkHolder, lastRevision}
 use Rattle.operations.specs.Vehicle.{nest, adopt}
-use Rattle.operations.specs.Replace.{orphan, cutOf, enteredOf, replacedIn, judgeReplace, replaced, closedReplace, settledReplace, commitReplacementOn}
-use Rattle.operations.specs.Code.{Placed, Ready, Cut, partsOf, splitOf, entriesOf, tableOf, Laid, Ranked, flagged, altered, misfit, leftIn, judgeLeft, leftOn}
+use Rattle.operations.specs.Replace.{orphan, cutOf, enteredOf, replacedIn, judgeReplace, replaced, closedReplace, settledReplace, commitReplacementWith, commitReplacementOn}
+use Rattle.operations.specs.Code.{Placed, Ready, Cut, partsOf, splitOf, entriesOf, tableOf, Laid, Ranked, flagged, altered, checkInsert, checkEntry, replacedBy, leftIn, judgeLeft, leftOn}
 use Rattle.operations.proofs.Going.{placed-count, kept-count, kept-placed, parts-back, cut-of, roots-size}
 use Rattle.operations.proofs.Leaving.{entries-back, laid-of}
 use Rattle.operations.proofs.Coming.{enter-length}
-use Rattle.operations.proofs.Closing.{closed-sound, closed-broken}
+use Rattle.operations.proofs.Closing.{lists-test, closed-sound, closed-broken}
 use Rattle.operations.proofs.Chains.{refuse, go-on, and-then, first-done, rest-done, revision-left}
 use Rattle.operations.proofs.Inserting.{active-placed, defunct-room}
 use Rattle.operations.proofs.Adopting.{children-are, taken}
+use Rattle.operations.proofs.Bundles.{judge-replace}
 use Rattle.operations.proofs.Ordering.{entered-order}
 
 -- ---- tests
@@ -84,24 +85,24 @@ module _ (x : ActiveLock) (by at : ℕ) (g : List ActiveLock) (t : List DefunctL
 
 -- ---- the answers
 module _ (s n : LockState) (gone : ℕ) (removed : List ActiveLock) (h : Placed removed gone) (v : Verdict) (e : v ≡ brokenRule n) where
-  pub shut-broken : (k : ℕ) → v ≡ Broken k → (r : Replaced) → r ≡ replaced Invariant [] s → r ≡ closedReplace s (take gone removed) n
-  unfolding closedReplace
+  pub shut-broken : (k : ℕ) → v ≡ Broken k → (r : Replaced) → r ≡ replaced Invariant [] s → r ≡ replacedBy s (take gone removed) n
+  unfolding replacedBy
   shut-broken k f r z = z ∙ sym (closed-broken n (replaced Done (take gone removed) n) (replaced Invariant [] s) v e k f)
 
-  pub shut-sound : v ≡ Sound → record { told = record { answer = Done; gone = gone; removed = removed }; state = n } ≡ closedReplace s (take gone removed) n
-  unfolding closedReplace
+  pub shut-sound : v ≡ Sound → record { told = record { answer = Done; gone = gone; removed = removed }; state = n } ≡ replacedBy s (take gone removed) n
+  unfolding replacedBy
   shut-sound f =
       (λ j. record { told = record { answer = Done; gone = sym (placed-count removed gone h) j; removed = sym (h .same) j }; state = n })
       ∙ sym (closed-sound n (replaced Done (take gone removed) n) (replaced Invariant [] s) v e f)
 
 module _ (a : Answer) (s : LockState) (g : List ActiveLock) (m : Model) where
-  refused-is : isDone a ≡ false → replaced a [] s ≡ settledReplace a s g m
+  refused-is : isDone a ≡ false → replaced a [] s ≡ settledReplace full a s g m
   unfolding settledReplace
-  refused-is t = sym (cond-false (isDone a) (closedReplace s g (stateOf m)) (replaced a [] s) t)
+  refused-is t = sym (cond-false (isDone a) (closedReplace full s g m) (replaced a [] s) t)
 
-  done-is : isDone a ≡ true → closedReplace s g (stateOf m) ≡ settledReplace a s g m
+  done-is : isDone a ≡ true → closedReplace full s g m ≡ settledReplace full a s g m
   unfolding settledReplace
-  done-is t = sym (cond-true (isDone a) (closedReplace s g (stateOf m)) (replaced a [] s) t)
+  done-is t = sym (cond-true (isDone a) (closedReplace full s g m) (replaced a [] s) t)
 
 -- ---- once the trees are out
 module _ (s : LockState) (h : Ready s) (q : Split) (c : Cut q) (x : ActiveLock) (by at : ℕ) where
@@ -115,15 +116,15 @@ module _ (s : LockState) (h : Ready s) (q : Split) (c : Cut q) (x : ActiveLock) 
   gone-placed = record { room = omega (arith, c .room); same = ap (λ (y : Split). y .removed) (c .same) }
 
   module _ (takes : List Bool) (e : takes ≡ inPlaces 64 false (map (orphan x) (p .kept))) (a : Answer)
-      (g : a ≡ andThen (checkInsert (p .kept) x) (andThen (checkRevision (s .revision)) (toldChild x (find (misfit x) (flagged (take (q .left) takes) (p .kept)))))) (b : Bool) (f : b ≡ isDone a) where
-    told : andThen (checkInsert (p .kept) x) (andThen (checkRevision (s .revision)) (checkChildren (orphan x) (p .kept) x)) ≡ a
+      (g : a ≡ andThen (checkInsert (p .kept) x) (andThen (checkRevision (s .revision)) (firstRefusal (checkChild x) (flagged (take (q .left) takes) (p .kept))))) (b : Bool) (f : b ≡ isDone a) where
+    told : andThen (checkInsert (p .kept) x) (andThen (checkRevision (s .revision)) (firstRefusal (checkChild x) (filter (orphan x) (p .kept)))) ≡ a
     told = sym (g ∙ ap (λ (y : Answer). andThen (checkInsert (p .kept) x) (andThen (checkRevision (s .revision)) y)) (children-are (orphan x) x (p .kept) (q .left) takes e (kept-count q c)))
 
     judge-is : judgeLeft m p x by at ≡ andThen a (checkRoom full (leftIn m p x by at))
     unfolding judgeLeft
     judge-is =
-        ap (andThen (checkInsert (p .kept) x)) (sym (and-then (checkRevision (s .revision)) (checkChildren (orphan x) (p .kept) x) (checkRoom full (leftIn m p x by at))))
-        ∙ sym (and-then (checkInsert (p .kept) x) (andThen (checkRevision (s .revision)) (checkChildren (orphan x) (p .kept) x)) (checkRoom full (leftIn m p x by at)))
+        ap (andThen (checkInsert (p .kept) x)) (sym (and-then (checkRevision (s .revision)) (firstRefusal (checkChild x) (filter (orphan x) (p .kept))) (checkRoom full (leftIn m p x by at))))
+        ∙ sym (and-then (checkInsert (p .kept) x) (andThen (checkRevision (s .revision)) (firstRefusal (checkChild x) (filter (orphan x) (p .kept)))) (checkRoom full (leftIn m p x by at)))
         ∙ ap (λ (y : Answer). andThen y (checkRoom full (leftIn m p x by at))) told
 
     pub left-refused : not b ≡ true → (r : Replaced) → r ≡ replaced a [] s → r ≡ leftOn s p x by at
@@ -196,24 +197,24 @@ module _ (s : LockState) (h : Ready s) (q : Split) (c : Cut q) (x : ActiveLock) 
                   count : q .left + 1 ≡ length (insertBy akey x (map (adopt (orphan x) x) (p .kept)))
                   count = omega (arith, length-insert akey x (map (adopt (orphan x) x) (p .kept)), length-map (p .kept) (adopt (orphan x) x), kept-count q c)
 
-              pub left-done : (n : LockState) (r : Replaced) → n ≡ record { revision = s .revision + 1; active = d; actives = q .left + 1; defunct = ts; defuncts = u .count } → r ≡ closedReplace s (p .gone) n → r ≡ leftOn s p x by at
-              unfolding leftOn
-              left-done n r o z = z ∙ ap (closedReplace s (p .gone)) (o ∙ next-is) ∙ done-is (judgeLeft m p x by at) s (p .gone) (leftIn m p x by at) done
+              pub left-done : (n : LockState) (r : Replaced) → n ≡ record { revision = s .revision + 1; active = d; actives = q .left + 1; defunct = ts; defuncts = u .count } → r ≡ replacedBy s (p .gone) n → r ≡ leftOn s p x by at
+              unfolding leftOn closedReplace replacedBy
+              left-done n r o z = z ∙ ap (replacedBy s (p .gone)) (o ∙ next-is) ∙ ap (λ (y : Bool). cond y (replaced Done (p .gone) (stateOf (leftIn m p x by at))) (replaced Invariant [] s)) (lists-test (leftIn m p x by at)) ∙ done-is (judgeLeft m p x by at) s (p .gone) (leftIn m p x by at) done
 
 -- ---- the whole
 module _ (s : LockState) (ws : List ℕ) (y x : ActiveLock) (f : x ≡ normal y) (by at : ℕ) (v : Verdict) (e : v ≡ brokenRule s) where
   pub whole-broken : (n : ℕ) → v ≡ Broken n → (r : Replaced) → r ≡ replaced (UnsoundState n) [] s → r ≡ commitReplacementOn s ws y by at
-  unfolding commitReplacementOn
+  unfolding commitReplacementOn commitReplacementWith
   whole-broken n g r k = k ∙ on-broken s (λ n. replaced (UnsoundState n) [] s) _ v n e g
 
   module _ (g : v ≡ Sound) (a : Answer) (h : a ≡ andThen (checkList ws) (checkEntry (modelOf s .active) (modelOf s .defunct) ws x)) (b : Bool) (d : b ≡ isDone a) where
     entry-is : judgeReplace full (modelOf s) ws x by at ≡ andThen a (judgeLeft (modelOf s) (cutOf (modelOf s) ws) x by at)
-    unfolding judgeReplace judgeLeft replacedIn leftIn
-    entry-is = sym (and-then (checkList ws) (checkEntry (modelOf s .active) (modelOf s .defunct) ws x) _) ∙ ap (λ (o : Answer). andThen o (judgeLeft (modelOf s) (cutOf (modelOf s) ws) x by at)) (sym h)
+    unfolding judgeLeft replacedIn leftIn
+    entry-is = judge-replace full (modelOf s) ws x by at ∙ sym (and-then (checkList ws) (checkEntry (modelOf s .active) (modelOf s .defunct) ws x) _) ∙ ap (λ (o : Answer). andThen o (judgeLeft (modelOf s) (cutOf (modelOf s) ws) x by at)) (sym h)
 
-    whole : settledReplace (judgeReplace full (modelOf s) ws x by at) s (cutOf (modelOf s) ws .gone) (replacedIn (modelOf s) ws x by at) ≡ commitReplacementOn s ws y by at
-    unfolding commitReplacementOn
-    whole = ap (λ (o : ActiveLock). settledReplace (judgeReplace full (modelOf s) ws o by at) s (cutOf (modelOf s) ws .gone) (replacedIn (modelOf s) ws o by at)) f ∙ on-sound s (λ n. replaced (UnsoundState n) [] s) _ v e g
+    whole : settledReplace full (judgeReplace full (modelOf s) ws x by at) s (cutOf (modelOf s) ws .gone) (replacedIn (modelOf s) ws x by at) ≡ commitReplacementOn s ws y by at
+    unfolding commitReplacementOn commitReplacementWith
+    whole = ap (λ (o : ActiveLock). settledReplace full (judgeReplace full (modelOf s) ws o by at) s (cutOf (modelOf s) ws .gone) (replacedIn (modelOf s) ws o by at)) f ∙ on-sound s (λ n. replaced (UnsoundState n) [] s) _ v e g
 
     pub whole-refused : not b ≡ true → (r : Replaced) → r ≡ replaced a [] s → r ≡ commitReplacementOn s ws y by at
     unfolding andThen
@@ -238,4 +239,4 @@ module _ (s : LockState) (ws : List ℕ) (y x : ActiveLock) (f : x ≡ normal y)
       unfolding leftOn andThen replacedIn leftIn
       whole-rest t r z =
           let j : judgeReplace full (modelOf s) ws x by at ≡ judgeLeft (modelOf s) (cutOf (modelOf s) ws) x by at = entry-is ∙ cond-true (isDone a) (judgeLeft (modelOf s) (cutOf (modelOf s) ws) x by at) a (sym d ∙ not-false b t) in
-          z ∙ ap (λ (o : Parts). leftOn s o x by at) cut-is ∙ ap (λ (o : Answer). settledReplace o s (cutOf (modelOf s) ws .gone) (replacedIn (modelOf s) ws x by at)) (sym j) ∙ whole
+          z ∙ ap (λ (o : Parts). leftOn s o x by at) cut-is ∙ ap (λ (o : Answer). settledReplace full o s (cutOf (modelOf s) ws .gone) (replacedIn (modelOf s) ws x by at)) (sym j) ∙ whole

@@ -29,12 +29,12 @@ use Rattle.operations.specs.declared.answers.DefunctExpiry.the-variants 
 use Rattle.operations.specs.declared.answers.Shed.{Shed}
 use Rattle.operations.specs.declared.answers.Acknowledged.{Acknowledged}
 use Rattle.operations.specs.declared.answers.DefunctsExpired.{DefunctsExpired}
-use Rattle.operations.specs.declared.table.Table.{Table}
-use Rattle.operations.specs.Table.{removeD, removeAll}
+use Rattle.operations.specs.declared.defuncts.Table.{Table}
+use Rattle.operations.specs.Defuncts.{removeD, removeAll}
 use Rattle.operations.specs.Checks.{atLast}
 use Rattle.operations.specs.Acknowledge.{withDefunct, shedIn, acknowledged, toldAcknowledge, acknowledgedTo, acknowledgeOn, lapsed, lapsedOf, idsOfEntries, shed, shedTo, expireDefunctOn}
 use Rattle.operations.specs.Code.{entriesOf, tableOf, Ranked}
-use Rattle.operations.specs.Place.{idsTold, shedBy}
+use Rattle.operations.specs.Code.{idsTold, shedBy}
 use Rattle.operations.proofs.Leaving.{remove-le, removeAll-le, entries-back, laid-of}
 
 -- ---- the state with the entries of a table

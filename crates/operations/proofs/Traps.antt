@@ -18,16 +18,16 @@ use Rattle.coverage.specs.Coverage.{noCoverage, wholeVehicle, withEcus, wordOf,
 use Rattle.state.specs.declared.ScopeKey.{ScopeKey}
 use Rattle.state.specs.declared.ScopeKey.the-variants.{Vehicle, Ecu, FunctionalGroup}
 use Rattle.state.specs.declared.ActiveLock.{ActiveLock}
-use Rattle.state.specs.Locks.{akey, isVehicle, isGroup, ecuIn, scopeCode, sameScope, hasId, hasIdD, blankActive, blankDefunct}
+use Rattle.state.specs.Locks.{akey, isVehicle, isGroup, ecuIn, scopeCode, sameScope, hasId, hasIdD, makeLock, blankActive, blankDefunct}
 use Rattle.state.specs.Model.{Model, fits, stateOf}
 use Rattle.rules.specs.Rules.{zeroId, zeroSet, zeroLock, isBlankA, isBlankD, blanks, inOrder, neatL, neatA, neatD, neat, rule0, rule1, rule2, rule3, rule4, rule5, rule6, rule7, clash, rule8, meetsNone, rule9, brokenRule}
 use Rattle.lookups.specs.Reads.{onSound, onScope, narrow, coversDefunct}
 use Rattle.operations.specs.declared.answers.Answer.the-variants as answer
 use Rattle.operations.specs.declared.answers.Acknowledgement.the-variants as acknowledgement
 use Rattle.operations.specs.Answers.{isDone, refuseIf, andThen}
-use Rattle.operations.specs.Table.{redirect, other, removeD, superseded, supersede, toDefunct}
+use Rattle.operations.specs.Defuncts.{redirect, other, removeD, superseded, supersede, toDefunct}
 use Rattle.operations.specs.Trees.{childOf, inTree, treeParts, rootParts, rootsParts}
-use Rattle.operations.specs.Checks.{lastRevision, checkList, checkId, checkScope, checkNesting, conflicts, checkClear, checkInsert, atLast, checkRevision, checkRoom, checkRoot, missing, settledLock, unfitId, checkListed, unfitChild, checkChildren, checkRoots, checkHolder, checkEntry}
+use Rattle.operations.specs.Checks.{lastRevision, checkList, checkId, checkScope, checkParentActive, checkParentVehicle, checkParentOwner, checkParentCover, conflicts, checkClear, atLast, checkRevision, checkRoom, checkRoot, missing, checkActive, settledLock, checkFree, checkListed, checkOwner, checkCover, checkChild, checkHolder}
 use Rattle.operations.specs.Insert.{insertedIn}
 use Rattle.operations.specs.Vehicle.{nest, adopt, vehicleIn, judgeVehicle}
 use Rattle.operations.specs.Replace.{orphan, enteredOf, replacedIn, judgeReplace}
@@ -40,7 +40,7 @@ idOf n = record { hi = 0; lo = n }
 abbrev lockOf : ℕ → ScopeKey → LockCoverage → ActiveLock
 lockOf i k c =
     record {
-      lock = record { id = idOf i; coverage = c; principal = 0; metadata = 0; subject = 1; scope = k; exclusive = false };
+      lock = makeLock (idOf i) k c 1;
       parent = noId;
       expires = 100;
       child = false;
@@ -73,7 +73,7 @@ not-expanded = refl
 
 -- ---- one active lock, no defunct one, and room for just that: a replacement whose entry is superseded is done
 pub room-at-the-end : judgeReplace (record { active = 1; defunct = 0 }) (record { revision = 1; active = ecu 1 ∷ []; defunct = [] }) (0 ∷ 1 ∷ []) (ecu 2) 0 0 ≡ answer.Done
-unfolding judgeReplace checkList checkEntry checkRoots checkId checkHolder checkInsert checkScope checkNesting checkClear checkRevision checkChildren checkRoom replacedIn enteredOf orphan adopt nest fits rootsParts rootParts treeParts childOf inTree narrow hasId hasIdD key listedIn sameId beforeId oddWords missing onScope sameScope scopeCode conflicts overlap within isVehicle isGroup ecuIn covers inSet wordOf atLast unfitChild supersede superseded coversDefunct toDefunct removeD redirect other andThen refuseIf isDone _and_ _or_ _imp_ non anyBelow allBelow
+unfolding judgeReplace checkList checkActive checkId checkHolder checkScope checkParentActive checkParentVehicle checkParentOwner checkParentCover checkClear checkRevision checkCover checkRoom replacedIn enteredOf orphan adopt nest fits rootsParts rootParts treeParts childOf inTree narrow hasId hasIdD key listedIn sameId beforeId oddWords missing onScope sameScope scopeCode conflicts overlap within isVehicle isGroup ecuIn covers inSet wordOf atLast supersede superseded coversDefunct toDefunct removeD redirect other andThen refuseIf isDone _and_ _or_ _imp_ non anyBelow allBelow
 room-at-the-end = refl
 
 -- ---- one defunct entry at the last revision: it is gone, and the revision unchanged
@@ -91,5 +91,5 @@ not-undone = refl
 
 -- ---- a vehicle lock that covers nothing over an ECU lock, at the last revision: 8, though 11.4 holds too
 pub revision-first : judgeVehicle (record { active = 64; defunct = 128 }) (record { revision = lastRevision; active = ecu 1 ∷ []; defunct = [] }) (bare 2) (0 ∷ 1 ∷ []) ≡ answer.RevisionOverflow
-unfolding judgeVehicle checkList checkRoot checkListed checkId checkScope checkRevision checkChildren checkRoom vehicleIn insertedIn adopt nest fits supersede superseded coversDefunct hasId hasIdD key listedIn sameId beforeId oddWords missing settledLock unfitId unfitChild onScope sameScope scopeCode isVehicle within inSet wordOf atLast andThen refuseIf isDone _and_ _or_ _imp_ non allBelow
+unfolding judgeVehicle checkList checkRoot checkActive checkFree checkListed checkId checkScope checkRevision checkOwner checkCover checkChild checkRoom vehicleIn insertedIn adopt nest fits supersede superseded coversDefunct hasId hasIdD key listedIn sameId beforeId oddWords missing settledLock onScope sameScope scopeCode isVehicle within inSet wordOf atLast andThen refuseIf isDone _and_ _or_ _imp_ non allBelow
 revision-first = refl

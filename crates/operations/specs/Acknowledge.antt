@@ -21,54 +21,54 @@ use Rattle.operations.specs.declared.answers.DefunctExpiry.{DefunctExpir
 use Rattle.operations.specs.declared.answers.DefunctExpiry.the-variants as expiry
 use Rattle.operations.specs.declared.answers.Acknowledged.{Acknowledged}
 use Rattle.operations.specs.declared.answers.DefunctsExpired.{DefunctsExpired}
-use Rattle.operations.specs.Table.{removeD, removeAll}
+use Rattle.operations.specs.Defuncts.{removeD, removeAll}
 use Rattle.operations.specs.Checks.{atLast}
 
 -- the state with other defunct entries: at the last revision with the same number, else with the next
 abbrev pub withDefunct : Model → ℕ → List DefunctLock → Model
-withDefunct m r t = record { revision = r; active = m .active; defunct = t }
+withDefunct m revision defunct = record { revision = revision; active = m .active; defunct = defunct }
 
 unfoldable pub shedIn : Model → List DefunctLock → Model
-shedIn m t = withDefunct m (cond (atLast (m .revision)) (m .revision) (m .revision + 1)) t
+shedIn m defunct = withDefunct m (cond (atLast (m .revision)) (m .revision) (m .revision + 1)) defunct
 
 -- ---- acknowledge_defunct
 abbrev pub acknowledged : Acknowledgement → LockState → Acknowledged
-acknowledged a s = record { told = a; state = s }
+acknowledged answer state = record { told = answer; state = state }
 
 -- the original's closing check comes after the change, which it does not undo
 unfoldable pub toldAcknowledge : LockState → LockState → Acknowledgement
-toldAcknowledge s n = cond (atLast (s .revision)) acknowledgement.RevisionOverflow (cond (isSound (brokenRule n)) acknowledgement.Done acknowledgement.Invariant)
+toldAcknowledge state next = cond (atLast (state .revision)) acknowledgement.RevisionOverflow (cond (isSound (brokenRule next)) acknowledgement.Done acknowledgement.Invariant)
 
 unfoldable pub acknowledgedTo : LockState → LockState → Acknowledged
-acknowledgedTo s n = acknowledged (toldAcknowledge s n) n
+acknowledgedTo state next = acknowledged (toldAcknowledge state next) next
 
 unfoldable pub acknowledgeOn : LockState → LockId → Acknowledged
-acknowledgeOn s i =
-    onSound s (λ n. acknowledged (acknowledgement.UnsoundState n) s)
-    (cond (any (hasIdD i) (modelOf s .defunct))
-    (acknowledgedTo s (stateOf (shedIn (modelOf s) (removeD i (modelOf s .defunct)))))
-    (acknowledged acknowledgement.Absent s))
+acknowledgeOn state id =
+    onSound state (λ rule. acknowledged (acknowledgement.UnsoundState rule) state)
+    (cond (any (hasIdD id) (modelOf state .defunct))
+    (acknowledgedTo state (stateOf (shedIn (modelOf state) (removeD id (modelOf state .defunct)))))
+    (acknowledged acknowledgement.Absent state))
 
 -- ---- expire_defunct
 unfoldable pub lapsed : ℕ → DefunctLock → Bool
-lapsed now d = leb (d .expires) now
+lapsed now broken = leb (broken .expires) now
 
 abbrev pub lapsedOf : ℕ → Model → List DefunctLock
 lapsedOf now m = filter (lapsed now) (m .defunct)
 
 abbrev pub idsOfEntries : List DefunctLock → List LockId
-idsOfEntries l = map (λ d. d .lock .id) l
+idsOfEntries entries = map (λ broken. broken .lock .id) entries
 
 abbrev pub shed : DefunctExpiry → List LockId → LockState → DefunctsExpired
-shed a l s = record { told = record { answer = a; gone = length l; ids = inPlaces 128 noId l }; state = s }
+shed answer ids state = record { told = record { answer = answer; gone = length ids; ids = inPlaces 128 noId ids }; state = state }
 
 -- 8 tells the number only, no list
 unfoldable pub shedTo : LockState → List LockId → LockState → DefunctsExpired
-shedTo s l n = cond (atLast (s .revision)) (shed expiry.RevisionOverflow [] n) (cond (isSound (brokenRule n)) (shed expiry.Done l n) (shed expiry.Invariant [] n))
+shedTo state ids next = cond (atLast (state .revision)) (shed expiry.RevisionOverflow [] next) (cond (isSound (brokenRule next)) (shed expiry.Done ids next) (shed expiry.Invariant [] next))
 
 unfoldable pub expireDefunctOn : LockState → ℕ → DefunctsExpired
-expireDefunctOn s now =
-    onSound s (λ n. shed (expiry.UnsoundState n) [] s)
-    (cond (any (lapsed now) (modelOf s .defunct))
-    (shedTo s (idsOfEntries (lapsedOf now (modelOf s))) (stateOf (shedIn (modelOf s) (removeAll (lapsedOf now (modelOf s)) (modelOf s .defunct)))))
-    (shed expiry.Done [] s))
+expireDefunctOn state now =
+    onSound state (λ rule. shed (expiry.UnsoundState rule) [] state)
+    (cond (any (lapsed now) (modelOf state .defunct))
+    (shedTo state (idsOfEntries (lapsedOf now (modelOf state))) (stateOf (shedIn (modelOf state) (removeAll (lapsedOf now (modelOf state)) (modelOf state .defunct)))))
+    (shed expiry.Done [] state))

@@ -3,7 +3,8 @@ use mathlib.Core.Bool.{Bool, true, false, cond}
 use mathlib.Core.List.{List, [], _∷_}
 use Prim.Native.Nat.{ℕ}
 use Rattle.ids.specs.declared.LockId.{LockId}
-use Rattle.lookups.specs.Papers.{Paper, paper, idValues}
+use Rattle.lists.specs.Papers.{Paper, paper}
+use Rattle.lookups.specs.Papers.{idValues}
 use Rattle.operations.specs.declared.answers.Answer.{Answer}
 use Rattle.operations.specs.declared.answers.Answer.the-variants.{Done, DuplicateId, DuplicateScope, ActiveLockNotFound, ParentNotFound, ParentNotVehicle, ReplacementScopeConflict, CoverageConflict, RevisionOverflow, NotRootVehicle, BadChild, OtherOwner, NotCovered, Invariant, UnsoundState, NoRoom, BadList}
 use Rattle.operations.specs.declared.answers.Renewal.{Renewal}
@@ -101,6 +102,10 @@ isDone BadList = false
 unfoldable pub refuseIf : {A : Type 0} → Bool → A → A → A
 refuseIf c a rest = cond c a rest
 
--- the first check that refuses
+-- the first check that refuses: of two, and of one check made of each element of a list in turn
 unfoldable pub andThen : Answer → Answer → Answer
 andThen a b = cond (isDone a) b a
+
+abbrev pub firstRefusal : {A : Type 0} → (A → Answer) → List A → Answer
+firstRefusal check [] = Done
+firstRefusal check (x ∷ xs) = andThen (check x) (firstRefusal check xs)

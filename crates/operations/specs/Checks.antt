@@ -1,127 +1,132 @@
--- The checks of insertions and replacement: each a definition, named by what it refuses. l are active locks, t defunct
--- entries, x the new lock, ws an id list's words. Document 01, "Order of checks".
+-- The checks of insertions and replacement, each a definition with the number that it refuses by; the order in which they
+-- are made stands in Insert.antt, Vehicle.antt and Replace.antt. Document 01, "Order of checks".
+--     active, defunct   the active locks and the defunct entries
+--     new               the lock that is put in
+--     ids               an id list's words
 use mathlib.Core.Bool.{Bool, true, false, cond}
-use mathlib.Core.List.{List, [], _∷_}
+use mathlib.Core.List.{List}
 use mathlib.Core.Option.{Option, none, some}
 use Prim.Native.Nat.{ℕ}
 use lib.Dec.{eqb}
 use Rattle.lists.specs.Tests.{_and_, _or_, non}
-use Rattle.lists.specs.Lists.{any, find, filter}
+use Rattle.lists.specs.Lists.{any, find}
 use Rattle.ids.specs.declared.LockId.{LockId}
-use Rattle.ids.specs.Words.{idsOf, oddWords, lowestOf}
+use Rattle.ids.specs.Words.{oddWords}
 use Rattle.coverage.specs.Coverage.{overlap, within}
 use Rattle.state.specs.declared.ActiveLock.{ActiveLock}
 use Rattle.state.specs.declared.DefunctLock.{DefunctLock}
-use Rattle.state.specs.Locks.{isVehicle, sameScope, hasId, hasIdD}
+use Rattle.state.specs.Locks.{isVehicle, hasId, hasIdD}
 use Rattle.state.specs.Model.{Model, Limits, fits}
 use Rattle.lookups.specs.Reads.{onScope}
 use Rattle.operations.specs.declared.answers.Answer.{Answer}
 use Rattle.operations.specs.declared.answers.Answer.the-variants.{Done, DuplicateId, DuplicateScope, ActiveLockNotFound, ParentNotFound, ParentNotVehicle, ReplacementScopeConflict, CoverageConflict, RevisionOverflow, NotRootVehicle, BadChild, OtherOwner, NotCovered, NoRoom, BadList}
 use Rattle.operations.specs.Answers.{refuseIf, andThen}
-use Rattle.operations.specs.Trees.{isListed, inTrees}
+use Rattle.operations.specs.Trees.{inTrees}
 
 -- ---- 14: "an id list with an odd number of 64-bit words"
 unfoldable pub checkList : List ℕ → Answer
-checkList ws = refuseIf (oddWords ws) BadList Done
+checkList ids = refuseIf (oddWords ids) BadList Done
 
 -- ---- 1
 unfoldable pub checkId : List ActiveLock → List DefunctLock → ActiveLock → Answer
-checkId l t x = refuseIf (any (hasId (x .lock .id)) l or any (hasIdD (x .lock .id)) t) (DuplicateId (x .lock .id)) Done
+checkId active defunct new = refuseIf (any (hasId (new .lock .id)) active or any (hasIdD (new .lock .id)) defunct) (DuplicateId (new .lock .id)) Done
 
 -- ---- 2
 unfoldable pub checkScope : List ActiveLock → ActiveLock → Answer
-checkScope l x = refuseIf (any (onScope (x .lock .scope)) l) DuplicateScope Done
+checkScope active new = refuseIf (any (onScope (new .lock .scope)) active) DuplicateScope Done
 
--- ---- 4, 5, 11.3, 11.4: of a lock that has a parent
-unfoldable pub checkParent : ActiveLock → ActiveLock → Answer
-checkParent x p =
-    refuseIf (non (isVehicle (p .lock .scope))) (ParentNotVehicle (x .parent))
-    (refuseIf (non (eqb (p .lock .subject) (x .lock .subject))) (OtherOwner (x .lock .id) (x .parent))
-    (refuseIf (non (within (x .lock .coverage) (p .lock .coverage))) (NotCovered (x .lock .id) (x .parent))
-    Done))
+-- ---- 4, 5, 11.3, 11.4 of a lock that has a parent, "child's and parent's id"
+abbrev pub parentOf : List ActiveLock → ActiveLock → Option ActiveLock
+parentOf active new = find (hasId (new .parent)) active
 
-abbrev pub checkFound : ActiveLock → Option ActiveLock → Answer
-checkFound x none = ParentNotFound (x .parent)
-checkFound x (some p) = checkParent x p
+abbrev pub absent : Option ActiveLock → Bool
+absent none = true
+absent (some parent) = false
 
-unfoldable pub checkNesting : List ActiveLock → ActiveLock → Answer
-checkNesting l x = cond (x .child) (checkFound x (find (hasId (x .parent)) l)) Done
+abbrev pub present : (ActiveLock → Bool) → Option ActiveLock → Bool
+present test none = false
+present test (some parent) = test parent
+
+-- 4
+unfoldable pub checkParentActive : List ActiveLock → ActiveLock → Answer
+checkParentActive active new = refuseIf (new .child and absent (parentOf active new)) (ParentNotFound (new .parent)) Done
+
+-- 5
+unfoldable pub checkParentVehicle : List ActiveLock → ActiveLock → Answer
+checkParentVehicle active new = refuseIf (new .child and present (λ parent. non (isVehicle (parent .lock .scope))) (parentOf active new)) (ParentNotVehicle (new .parent)) Done
+
+-- 11.3
+unfoldable pub checkParentOwner : List ActiveLock → ActiveLock → Answer
+checkParentOwner active new =
+    refuseIf (new .child and present (λ parent. non (eqb (parent .lock .subject) (new .lock .subject))) (parentOf active new)) (OtherOwner (new .lock .id) (new .parent)) Done
+
+-- 11.4
+unfoldable pub checkParentCover : List ActiveLock → ActiveLock → Answer
+checkParentCover active new =
+    refuseIf (new .child and present (λ parent. non (within (new .lock .coverage) (parent .lock .coverage))) (parentOf active new)) (NotCovered (new .lock .id) (new .parent)) Done
 
 -- ---- 7: "Conflict: another subject, overlapping coverage, the new lock not a vehicle lock; lowest such id."
 unfoldable pub conflicts : ActiveLock → ActiveLock → Bool
-conflicts x a = overlap (a .lock .coverage) (x .lock .coverage) and non (eqb (a .lock .subject) (x .lock .subject)) and non (isVehicle (x .lock .scope))
+conflicts new lock = overlap (lock .lock .coverage) (new .lock .coverage) and non (eqb (lock .lock .subject) (new .lock .subject)) and non (isVehicle (new .lock .scope))
 
 abbrev pub checkConflict : Option ActiveLock → Answer
 checkConflict none = Done
-checkConflict (some a) = CoverageConflict (a .lock .id)
+checkConflict (some lock) = CoverageConflict (lock .lock .id)
 
 unfoldable pub checkClear : List ActiveLock → ActiveLock → Answer
-checkClear l x = checkConflict (find (conflicts x) l)
-
--- 2, 4, 5, 11.3, 11.4, 7
-unfoldable pub checkInsert : List ActiveLock → ActiveLock → Answer
-checkInsert l x = andThen (checkScope l x) (andThen (checkNesting l x) (checkClear l x))
+checkClear active new = checkConflict (find (conflicts new) active)
 
 -- ---- 8: the revision can't rise
 abbrev pub lastRevision : ℕ
 lastRevision = 18446744073709551615
 
 unfoldable pub atLast : ℕ → Bool
-atLast r = eqb r lastRevision
+atLast revision = eqb revision lastRevision
 
 unfoldable pub checkRevision : ℕ → Answer
-checkRevision r = refuseIf (atLast r) RevisionOverflow Done
+checkRevision revision = refuseIf (atLast revision) RevisionOverflow Done
 
 -- ---- 13: "13 looks only at the final state."
 unfoldable pub checkRoom : Limits → Model → Answer
-checkRoom k m = refuseIf (non (fits k m)) NoRoom Done
+checkRoom limits next = refuseIf (non (fits limits next)) NoRoom Done
 
--- ---- insert_vehicle: 11.1; then "the first that is missing (3) or is a vehicle lock or has a parent (11.2)"
+-- ---- 11.1, of insert_vehicle's lock
 unfoldable pub checkRoot : ActiveLock → Answer
-checkRoot x = refuseIf (non (isVehicle (x .lock .scope)) or x .child) NotRootVehicle Done
+checkRoot new = refuseIf (non (isVehicle (new .lock .scope)) or new .child) NotRootVehicle Done
 
+-- ---- one id of a list: "missing (3) or is a vehicle lock or has a parent (11.2)"
+-- 3
 unfoldable pub missing : List ActiveLock → LockId → Bool
-missing l i = non (any (hasId i) l)
+missing active id = non (any (hasId id) active)
 
--- a lock that can't be a child
+unfoldable pub checkActive : List ActiveLock → LockId → Answer
+checkActive active id = refuseIf (missing active id) (ActiveLockNotFound id) Done
+
+-- 11.2
 unfoldable pub settledLock : ActiveLock → Bool
-settledLock a = isVehicle (a .lock .scope) or a .child
+settledLock lock = isVehicle (lock .lock .scope) or lock .child
 
-unfoldable pub unfitId : List ActiveLock → LockId → Bool
-unfitId l i = missing l i or any (λ a. hasId i a and settledLock a) l
+unfoldable pub checkFree : List ActiveLock → LockId → Answer
+checkFree active id = refuseIf (any (λ lock. hasId id lock and settledLock lock) active) (BadChild id) Done
 
-abbrev pub toldListed : List ActiveLock → Option LockId → Answer
-toldListed l none = Done
-toldListed l (some i) = cond (missing l i) (ActiveLockNotFound i) (BadChild i)
+unfoldable pub checkListed : List ActiveLock → LockId → Answer
+checkListed active id = andThen (checkActive active id) (checkFree active id)
 
-unfoldable pub checkListed : List ActiveLock → List ℕ → Answer
-checkListed l ws = toldListed l (lowestOf none (filter (unfitId l) (idsOf ws)))
+-- ---- one lock that the new vehicle lock takes in: "child's and parent's id", "11.3 before 11.4"
+-- 11.3
+unfoldable pub checkOwner : ActiveLock → ActiveLock → Answer
+checkOwner new child = refuseIf (non (eqb (new .lock .subject) (child .lock .subject))) (OtherOwner (child .lock .id) (new .lock .id)) Done
 
--- ---- children that the new vehicle lock x takes in: "the lowest child with 11.3 before 11.4"
-unfoldable pub unfitChild : (ActiveLock → Bool) → ActiveLock → ActiveLock → Bool
-unfitChild p x a = p a and (non (eqb (x .lock .subject) (a .lock .subject)) or non (within (a .lock .coverage) (x .lock .coverage)))
+-- 11.4
+unfoldable pub checkCover : ActiveLock → ActiveLock → Answer
+checkCover new child = refuseIf (non (within (child .lock .coverage) (new .lock .coverage))) (NotCovered (child .lock .id) (new .lock .id)) Done
 
-abbrev pub toldChild : ActiveLock → Option ActiveLock → Answer
-toldChild x none = Done
-toldChild x (some a) = cond (eqb (x .lock .subject) (a .lock .subject)) (NotCovered (a .lock .id) (x .lock .id)) (OtherOwner (a .lock .id) (x .lock .id))
+unfoldable pub checkChild : ActiveLock → ActiveLock → Answer
+checkChild new child = andThen (checkOwner new child) (checkCover new child)
 
-unfoldable pub checkChildren : (ActiveLock → Bool) → List ActiveLock → ActiveLock → Answer
-checkChildren p l x = toldChild x (find (unfitChild p x) l)
-
--- ---- commit_replacement: "lowest missing root (3)"; "6 when the scope's holder is outside the expanded trees"
-abbrev pub toldRoot : Option LockId → Answer
-toldRoot none = Done
-toldRoot (some i) = ActiveLockNotFound i
-
-unfoldable pub checkRoots : List ActiveLock → List ℕ → Answer
-checkRoots l ws = toldRoot (lowestOf none (filter (missing l) (idsOf ws)))
-
+-- ---- 6: "when the scope's holder is outside the expanded trees"
 abbrev pub outside : List ℕ → List ActiveLock → ActiveLock → ActiveLock → Bool
-outside ws l x a = onScope (x .lock .scope) a and non (inTrees ws l a)
+outside ids active new lock = onScope (new .lock .scope) lock and non (inTrees ids active lock)
 
 unfoldable pub checkHolder : List ActiveLock → List ℕ → ActiveLock → Answer
-checkHolder l ws x = refuseIf (any (outside ws l x) l) ReplacementScopeConflict Done
-
--- 3, 1, 6
-unfoldable pub checkEntry : List ActiveLock → List DefunctLock → List ℕ → ActiveLock → Answer
-checkEntry l t ws x = andThen (checkRoots l ws) (andThen (checkId l t x) (checkHolder l ws x))
+checkHolder active ids new = refuseIf (any (outside ids active new) active) ReplacementScopeConflict Done

@@ -1,33 +1,47 @@
--- Helpers of the code alone: the lists in their places, as the code passes them from function to function.
+-- What only the contracts of the crate's own functions name: a reader of the operations need not believe or read any of it.
+-- The public contracts are the `..On` definitions of the other files alone, and the proofs join the two.
+-- The lists in their places, as the code passes them from function to function; places in them; checks made in one go; the
+-- parts of a replacement and of an expiry.
 use mathlib.Core.Bool.{Bool, true, false, cond}
 use mathlib.Core.List.{List, [], _∷_, _++_, map}
+use mathlib.Core.Option.{Option, none, some}
 use mathlib.Core.Path.{_≡_}
 use Prim.Native.Nat.{ℕ, zero, suc, _+_, _≤_, _<_}
-use lib.Dec.{eqb, ltb}
+use lib.Dec.{eqb, ltb, leb}
 use lib.ListN.{length, getD, take}
 use Rattle.lists.specs.Tests.{_or_, non, Yes}
 use Rattle.lists.specs.Lists.{any, filter, Mem, ascending, insertBy}
 use Rattle.lists.specs.Places.{inPlaces, leading}
 use Rattle.ids.specs.declared.LockId.{LockId}
-use Rattle.ids.specs.Order.{key}
+use Rattle.ids.specs.Order.{key, noId}
+use Rattle.ids.specs.Words.{ascendingIds}
 use Rattle.coverage.specs.Coverage.{within}
 use Rattle.state.specs.declared.ActiveLock.{ActiveLock}
 use Rattle.state.specs.declared.DefunctLock.{DefunctLock}
 use Rattle.state.specs.declared.LockState.{LockState}
-use Rattle.state.specs.Locks.{hasId, akey, dkey, blankActive, blankDefunct}
-use Rattle.state.specs.Model.{Model, modelOf, full, Tidy}
+use Rattle.state.specs.Locks.{isVehicle, hasId, akey, dkey, blankActive, blankDefunct}
+use Rattle.state.specs.Model.{Model, modelOf, Limits, full, Tidy}
+use Rattle.rules.specs.Rules.{brokenRule, isSound}
 use Rattle.lookups.specs.Reads.{narrow}
 use Rattle.operations.specs.declared.answers.Answer.{Answer}
+use Rattle.operations.specs.declared.answers.Answer.the-variants.{Done, ParentNotFound, ParentNotVehicle, OtherOwner, NotCovered, Invariant}
+use Rattle.operations.specs.declared.answers.Inserted.{Inserted}
 use Rattle.operations.specs.declared.answers.Replaced.{Replaced}
 use Rattle.operations.specs.declared.trees.Places.{Places}
 use Rattle.operations.specs.declared.trees.Split.{Split}
-use Rattle.operations.specs.declared.table.Table.{Table}
+use Rattle.operations.specs.declared.defuncts.Table.{Table}
 use Rattle.operations.specs.Trees.{childOf, Parts}
-use Rattle.operations.specs.Answers.{andThen}
-use Rattle.operations.specs.Table.{redirect}
-use Rattle.operations.specs.Checks.{checkInsert, checkRevision, checkChildren, checkRoom}
+use Rattle.operations.specs.Answers.{refuseIf, andThen, firstRefusal}
+use Rattle.operations.specs.Defuncts.{redirect, removeAll}
+use Rattle.operations.specs.Checks.{parentOf, checkId, checkScope, checkClear, atLast, checkRevision, checkRoom, checkActive, checkListed, checkChild, checkHolder}
+use Rattle.operations.specs.Insert.{insertedIn, inserted}
 use Rattle.operations.specs.Vehicle.{adopt}
-use Rattle.operations.specs.Replace.{orphan, enteredOf, settledReplace}
+use Rattle.operations.specs.Replace.{orphan, enteredOf, replaced, settledReplace}
+use Rattle.operations.specs.declared.answers.DefunctExpiry.{DefunctExpiry}
+use Rattle.operations.specs.declared.answers.DefunctExpiry.the-variants as expiry
+use Rattle.operations.specs.declared.answers.Shed.{Shed}
+use Rattle.operations.specs.declared.answers.DefunctsExpired.{DefunctsExpired}
+use Rattle.operations.specs.Acknowledge.{lapsed, shed}
 
 module _ {A : Type 0} where
   -- what is marked, and what is left; what stands past the marks is left
@@ -159,10 +173,45 @@ unfoldable pub handOn : List Bool → ℕ → List DefunctLock → List DefunctL
 handOn goes zero l = l
 handOn goes (suc i) l = handStep (getD goes i false) i (handOn goes i l)
 
--- ---- checks
--- a lock that the vehicle lock x can't take in
-unfoldable pub misfit : ActiveLock → ActiveLock → Bool
-misfit x a = non (eqb (x .lock .subject) (a .lock .subject)) or non (within (a .lock .coverage) (x .lock .coverage))
+-- ---- checks that the code makes in one function (proofs/Bundles.antt joins them to the definitions' lines)
+-- of the lock and its parent: 5, 11.3, 11.4
+unfoldable pub checkParent : ActiveLock → ActiveLock → Answer
+checkParent x p =
+    refuseIf (non (isVehicle (p .lock .scope))) (ParentNotVehicle (x .parent))
+    (refuseIf (non (eqb (p .lock .subject) (x .lock .subject))) (OtherOwner (x .lock .id) (x .parent))
+    (refuseIf (non (within (x .lock .coverage) (p .lock .coverage))) (NotCovered (x .lock .id) (x .parent))
+    Done))
+
+abbrev pub checkFound : ActiveLock → Option ActiveLock → Answer
+checkFound x none = ParentNotFound (x .parent)
+checkFound x (some p) = checkParent x p
+
+-- 4, 5, 11.3, 11.4
+unfoldable pub checkNesting : List ActiveLock → ActiveLock → Answer
+checkNesting l x = cond (x .child) (checkFound x (parentOf l x)) Done
+
+-- 2, 4, 5, 11.3, 11.4, 7
+unfoldable pub checkInsert : List ActiveLock → ActiveLock → Answer
+checkInsert l x = andThen (checkScope l x) (andThen (checkNesting l x) (checkClear l x))
+
+-- 3, 1, 6
+unfoldable pub checkEntry : List ActiveLock → List DefunctLock → List ℕ → ActiveLock → Answer
+checkEntry l t ws x = andThen (firstRefusal (checkActive l) (ascendingIds ws)) (andThen (checkId l t x) (checkHolder l ws x))
+
+-- insert_active's
+unfoldable pub judgeBundled : Limits → Model → ActiveLock → Answer
+judgeBundled k m x = andThen (checkId (m .active) (m .defunct) x) (andThen (checkInsert (m .active) x) (andThen (checkRevision (m .revision)) (checkRoom k (insertedIn m x))))
+
+-- an id that names a child, or a root: 3 and 11.2, or 3 alone
+unfoldable pub checkNamed : Bool → List ActiveLock → LockId → Answer
+checkNamed child l i = cond child (checkListed l i) (checkActive l i)
+
+-- ---- the closing check, as the code makes it: of the next state
+unfoldable pub insertedBy : LockState → LockState → Inserted
+insertedBy s n = cond (isSound (brokenRule n)) (inserted Done n) (inserted Invariant s)
+
+unfoldable pub replacedBy : LockState → List ActiveLock → LockState → Replaced
+replacedBy s g n = cond (isSound (brokenRule n)) (replaced Done g n) (replaced Invariant [] s)
 
 -- ---- a replacement once the trees are out: p are the locks that stay and those that went
 unfoldable pub leftIn : Model → Parts → ActiveLock → ℕ → ℕ → Model
@@ -177,8 +226,25 @@ unfoldable pub judgeLeft : Model → Parts → ActiveLock → ℕ → ℕ → An
 judgeLeft m p x by at =
     andThen (checkInsert (p .kept) x)
     (andThen (checkRevision (m .revision))
-    (andThen (checkChildren (orphan x) (p .kept) x)
+    (andThen (firstRefusal (checkChild x) (filter (orphan x) (p .kept)))
     (checkRoom full (leftIn m p x by at))))
 
 unfoldable pub leftOn : LockState → Parts → ActiveLock → ℕ → ℕ → Replaced
-leftOn s p x by at = settledReplace (judgeLeft (modelOf s) p x by at) s (p .gone) (leftIn (modelOf s) p x by at)
+leftOn s p x by at = settledReplace full (judgeLeft (modelOf s) p x by at) s (p .gone) (leftIn (modelOf s) p x by at)
+
+-- ---- places, and entries that have expired
+-- how many locks stand before the one with this id; all of them where there is none
+abbrev pub placeIn : LockId → List ActiveLock → ℕ
+placeIn i l = leading (λ a. non (hasId i a)) l 0
+
+-- expire_defunct: the list of ids that is told, the table without the entries, and what is told of the next state n
+abbrev pub idsTold : List LockId → Shed
+idsTold l = record { answer = expiry.Done; gone = length l; ids = inPlaces 128 noId l }
+
+abbrev pub expiredTable : ℕ → Table → Table
+expiredTable now t = tableOf (removeAll (filter (lapsed now) (entriesOf t)) (entriesOf t))
+
+unfoldable pub shedBy : LockState → Shed → LockState → DefunctsExpired
+shedBy s x n =
+    cond (atLast (s .revision)) (shed expiry.RevisionOverflow [] n)
+    (cond (isSound (brokenRule n)) (record { told = x; state = n }) (shed expiry.Invariant [] n))

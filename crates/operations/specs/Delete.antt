@@ -23,42 +23,49 @@ use Rattle.operations.specs.declared.answers.Expired.{Expired}
 use Rattle.operations.specs.Trees.{Parts, startParts, treeParts}
 use Rattle.operations.specs.Checks.{atLast}
 
--- the tree of r out of the active locks
+-- the tree of the root out of the active locks
 abbrev pub treeOut : Model → ActiveLock → Parts
-treeOut m r = treeParts r (startParts (m .active))
+treeOut m root = treeParts root (startParts (m .active))
 
 unfoldable pub withoutTree : Model → ActiveLock → Model
-withoutTree m r = record { revision = m .revision + 1; active = treeOut m r .kept; defunct = m .defunct }
+withoutTree m root = record { revision = m .revision + 1; active = treeOut m root .kept; defunct = m .defunct }
 
 -- ---- delete
 abbrev pub deleted : Deletion → List ActiveLock → LockState → Deleted
-deleted a g s = record { told = record { answer = a; gone = length g; removed = inPlaces 64 blankActive g }; state = s }
+deleted answer gone state = record { told = record { answer = answer; gone = length gone; removed = inPlaces 64 blankActive gone }; state = state }
 
 unfoldable pub closedDelete : LockState → List ActiveLock → LockState → Deleted
-closedDelete s g n = cond (isSound (brokenRule n)) (deleted deletion.Done g n) (deleted deletion.Invariant [] s)
+closedDelete state gone next = cond (isSound (brokenRule next)) (deleted deletion.Done gone next) (deleted deletion.Invariant [] state)
 
+-- 3 where there is no such lock; 8 at the last revision; else its tree goes
 unfoldable pub deleteFound : LockState → LockId → Option ActiveLock → Deleted
-deleteFound s i none = deleted (deletion.ActiveLockNotFound i) [] s
-deleteFound s i (some r) =
-    cond (atLast (s .revision)) (deleted deletion.RevisionOverflow [] s)
-    (closedDelete s (treeOut (modelOf s) r .gone) (stateOf (withoutTree (modelOf s) r)))
+deleteFound state id none = deleted (deletion.ActiveLockNotFound id) [] state
+deleteFound state id (some root) =
+    cond (atLast (state .revision)) (deleted deletion.RevisionOverflow [] state)
+    (closedDelete state (treeOut (modelOf state) root .gone) (stateOf (withoutTree (modelOf state) root)))
 
 unfoldable pub deleteOn : LockState → LockId → Deleted
-deleteOn s i = onSound s (λ n. deleted (deletion.UnsoundState n) [] s) (deleteFound s i (find (hasId i) (modelOf s .active)))
+deleteOn state id = onSound state (λ rule. deleted (deletion.UnsoundState rule) [] state) (deleteFound state id (find (hasId id) (modelOf state .active)))
 
 -- ---- begin_expiration
 abbrev pub expired : Expiration → List ActiveLock → LockState → Expired
-expired a g s = record { told = record { answer = a; gone = length g; removed = inPlaces 64 blankActive g }; state = s }
+expired answer gone state = record { told = record { answer = answer; gone = length gone; removed = inPlaces 64 blankActive gone }; state = state }
 
-unfoldable pub closedExpire : LockState → List ActiveLock → LockState → Expired
-closedExpire s g n = cond (isSound (brokenRule n)) (expired expiration.Done g n) (expired expiration.Invariant [] s)
+-- "as delete": a deletion's answer in an expiration's words; the lock was found, so the case of 3 doesn't come up
+abbrev pub asExpiration : Deletion → Expiration
+asExpiration deletion.Done = expiration.Done
+asExpiration (deletion.ActiveLockNotFound id) = expiration.Stale
+asExpiration deletion.RevisionOverflow = expiration.RevisionOverflow
+asExpiration deletion.Invariant = expiration.Invariant
+asExpiration (deletion.UnsoundState rule) = expiration.UnsoundState rule
 
-unfoldable pub expireFound : LockState → ℕ → Option ActiveLock → Expired
-expireFound s now none = expired expiration.Stale [] s
-expireFound s now (some r) =
-    cond (ltb now (r .expires)) (expired (expiration.NotDue (r .expires)) [] s)
-    (cond (atLast (s .revision)) (expired expiration.RevisionOverflow [] s)
-    (closedExpire s (treeOut (modelOf s) r .gone) (stateOf (withoutTree (modelOf s) r))))
+abbrev pub asExpired : Deleted → Expired
+asExpired result = record { told = record { answer = asExpiration (result .told .answer); gone = result .told .gone; removed = result .told .removed }; state = result .state }
+
+-- Stale, NotDue with the time, "else as delete"
+unfoldable pub expireFound : LockState → LockId → ℕ → Option ActiveLock → Expired
+expireFound state id now none = expired expiration.Stale [] state
+expireFound state id now (some lock) = cond (ltb now (lock .expires)) (expired (expiration.NotDue (lock .expires)) [] state) (asExpired (deleteOn state id))
 
 unfoldable pub beginExpirationOn : LockState → LockId → ℕ → Expired
-beginExpirationOn s i now = onSound s (λ n. expired (expiration.UnsoundState n) [] s) (expireFound s now (find (hasId i) (modelOf s .active)))
+beginExpirationOn state id now = onSound state (λ rule. expired (expiration.UnsoundState rule) [] state) (expireFound state id now (find (hasId id) (modelOf state .active)))

@@ -1,5 +1,5 @@
 pub mod Answers
-pub mod Table
+pub mod Defuncts
 pub mod Trees
 pub mod Checks
 pub mod Insert
@@ -9,4 +9,3 @@ pub mod Delete
 pub mod Replace
 pub mod Acknowledge
 pub mod Code
-pub mod Place

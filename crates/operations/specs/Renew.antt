@@ -8,7 +8,7 @@ use Rattle.lists.specs.Lists.{find}
 use Rattle.ids.specs.declared.LockId.{LockId}
 use Rattle.state.specs.declared.ActiveLock.{ActiveLock}
 use Rattle.state.specs.declared.LockState.{LockState}
-use Rattle.state.specs.Locks.{hasId}
+use Rattle.state.specs.Locks.{hasId, withMetadata}
 use Rattle.state.specs.Model.{Model, modelOf, stateOf}
 use Rattle.rules.specs.Rules.{brokenRule, isSound}
 use Rattle.lookups.specs.Reads.{onSound}
@@ -18,57 +18,56 @@ use Rattle.operations.specs.declared.answers.Renewed.{Renewed}
 use Rattle.operations.specs.Answers.{refuseIf}
 use Rattle.operations.specs.Checks.{atLast}
 
--- the lock with its new expiry e, and the metadata d where there is one
+-- the lock with its new expiry, and the metadata where some is given
 unfoldable pub extended : ℕ → Bool → ℕ → ActiveLock → ActiveLock
-extended e has d a =
+extended expires given metadata lock =
     record {
-      lock =
-          record {
-            id = a .lock .id;
-            coverage = a .lock .coverage;
-            principal = a .lock .principal;
-            metadata = cond has d (a .lock .metadata);
-            subject = a .lock .subject;
-            scope = a .lock .scope;
-            exclusive = a .lock .exclusive;
-          };
-      parent = a .parent;
-      expires = e;
-      child = a .child;
+      lock = withMetadata (cond given metadata (lock .lock .metadata)) (lock .lock);
+      parent = lock .parent;
+      expires = expires;
+      child = lock .child;
     }
 
 unfoldable pub extendAt : LockId → ℕ → Bool → ℕ → ActiveLock → ActiveLock
-extendAt i e has d a = cond (hasId i a) (extended e has d a) a
+extendAt id expires given metadata lock = cond (hasId id lock) (extended expires given metadata lock) lock
 
 unfoldable pub renewedIn : Model → LockId → ℕ → Bool → ℕ → Model
-renewedIn m i e has d = record { revision = m .revision + 1; active = map (extendAt i e has d) (m .active); defunct = m .defunct }
+renewedIn m id expires given metadata = record { revision = m .revision + 1; active = map (extendAt id expires given metadata) (m .active); defunct = m .defunct }
 
+-- 9, 10, 8 of the lock that was found
+abbrev pub judgeLock : ℕ → ℕ → ℕ → ActiveLock → Renewal
+judgeLock revision expires now lock =
+    -- 9
+    refuseIf (leb (lock .expires) now) LockExpired
+    -- 10
+    (refuseIf (leb expires (lock .expires)) RenewalNotExtension
+    -- 8
+    (refuseIf (atLast revision) RevisionOverflow Done))
+
+-- 3, and then
 abbrev pub judgeFound : Model → LockId → ℕ → ℕ → Option ActiveLock → Renewal
-judgeFound m i e now none = ActiveLockNotFound i
-judgeFound m i e now (some a) =
-    refuseIf (leb (a .expires) now) LockExpired
-    (refuseIf (leb e (a .expires)) RenewalNotExtension
-    (refuseIf (atLast (m .revision)) RevisionOverflow Done))
+judgeFound m id expires now none = ActiveLockNotFound id
+judgeFound m id expires now (some lock) = judgeLock (m .revision) expires now lock
 
 unfoldable pub judgeRenew : Model → LockId → ℕ → ℕ → Renewal
-judgeRenew m i e now = judgeFound m i e now (find (hasId i) (m .active))
+judgeRenew m id expires now = judgeFound m id expires now (find (hasId id) (m .active))
 
 abbrev pub renewed : Renewal → LockState → Renewed
-renewed a s = record { told = a; state = s }
+renewed answer state = record { told = answer; state = state }
 
 unfoldable pub closedRenew : LockState → LockState → Renewed
-closedRenew s n = cond (isSound (brokenRule n)) (renewed Done n) (renewed Invariant s)
+closedRenew state next = cond (isSound (brokenRule next)) (renewed Done next) (renewed Invariant state)
 
 abbrev pub settledRenew : Renewal → LockState → Model → Renewed
-settledRenew Done s m = closedRenew s (stateOf m)
-settledRenew (ActiveLockNotFound i) s m = renewed (ActiveLockNotFound i) s
-settledRenew RevisionOverflow s m = renewed RevisionOverflow s
-settledRenew LockExpired s m = renewed LockExpired s
-settledRenew RenewalNotExtension s m = renewed RenewalNotExtension s
-settledRenew Invariant s m = renewed Invariant s
-settledRenew (UnsoundState n) s m = renewed (UnsoundState n) s
+settledRenew Done state next = closedRenew state (stateOf next)
+settledRenew (ActiveLockNotFound id) state next = renewed (ActiveLockNotFound id) state
+settledRenew RevisionOverflow state next = renewed RevisionOverflow state
+settledRenew LockExpired state next = renewed LockExpired state
+settledRenew RenewalNotExtension state next = renewed RenewalNotExtension state
+settledRenew Invariant state next = renewed Invariant state
+settledRenew (UnsoundState rule) state next = renewed (UnsoundState rule) state
 
 unfoldable pub renewOn : LockState → LockId → ℕ → ℕ → Bool → ℕ → Renewed
-renewOn s i e now has d =
-    onSound s (λ n. renewed (UnsoundState n) s)
-    (settledRenew (judgeRenew (modelOf s) i e now) s (renewedIn (modelOf s) i e has d))
+renewOn state id expires now given metadata =
+    onSound state (λ rule. renewed (UnsoundState rule) state)
+    (settledRenew (judgeRenew (modelOf state) id expires now) state (renewedIn (modelOf state) id expires given metadata))

@@ -14,10 +14,10 @@ use Rattle.lookups.specs.Reads.{narrow}
 
 -- "The child index is read off the parents."
 unfoldable pub childOf : ActiveLock → ActiveLock → Bool
-childOf r a = a .child and eqb (key (a .parent)) (akey r)
+childOf root lock = lock .child and eqb (key (lock .parent)) (akey root)
 
 unfoldable pub inTree : ActiveLock → ActiveLock → Bool
-inTree r a = childOf r a or narrow r a or hasId (r .lock .id) a
+inTree root lock = childOf root lock or narrow root lock or hasId (root .lock .id) lock
 
 -- the locks that stay, and those that went, in the order of their going
 pub record Parts : Type 0 where
@@ -26,31 +26,31 @@ pub record Parts : Type 0 where
 
 -- those that the test picks go
 abbrev pub takeParts : (ActiveLock → Bool) → Parts → Parts
-takeParts p m = record { kept = filter (λ a. non (p a)) (m .kept); gone = m .gone ++ filter p (m .kept) }
+takeParts picks parts = record { kept = filter (λ lock. non (picks lock)) (parts .kept); gone = parts .gone ++ filter picks (parts .kept) }
 
--- r's tree goes: its children, then what a group covers, then r itself
+-- the root's tree goes: its children, then what a group covers, then the root itself
 unfoldable pub treeParts : ActiveLock → Parts → Parts
-treeParts r m = takeParts (hasId (r .lock .id)) (takeParts (narrow r) (takeParts (childOf r) m))
+treeParts root parts = takeParts (hasId (root .lock .id)) (takeParts (narrow root) (takeParts (childOf root) parts))
 
--- "each tree removed from what then remains": where r is no longer there, nothing goes
+-- "each tree removed from what then remains": where the root is no longer there, nothing goes
 unfoldable pub rootParts : ActiveLock → Parts → Parts
-rootParts r m = cond (any (hasId (r .lock .id)) (m .kept)) (treeParts r m) m
+rootParts root parts = cond (any (hasId (root .lock .id)) (parts .kept)) (treeParts root parts) parts
 
 abbrev pub cutAll : List ActiveLock → Parts → Parts
-cutAll [] m = m
-cutAll (r ∷ rs) m = cutAll rs (rootParts r m)
+cutAll [] parts = parts
+cutAll (root ∷ roots) parts = cutAll roots (rootParts root parts)
 
 abbrev pub startParts : List ActiveLock → Parts
-startParts l = record { kept = l; gone = [] }
+startParts active = record { kept = active; gone = [] }
 
 -- the lock's id is in the list of ids
 abbrev pub isListed : List ℕ → ActiveLock → Bool
-isListed ws a = listedIn ws (a .lock .id)
+isListed ids lock = listedIn ids (lock .lock .id)
 
 -- "roots ascending": the active locks whose id is listed, as they stand
 unfoldable pub rootsParts : List ℕ → List ActiveLock → Parts
-rootsParts ws l = cutAll (filter (isListed ws) l) (startParts l)
+rootsParts ids active = cutAll (filter (isListed ids) active) (startParts active)
 
 -- in the tree of one of the listed roots: "the expanded trees (each root's as in delete, read from the state at entry)"
 abbrev pub inTrees : List ℕ → List ActiveLock → ActiveLock → Bool
-inTrees ws l a = any (λ r. inTree r a and isListed ws r) l
+inTrees ids active lock = any (λ root. inTree root lock and isListed ids root) active

@@ -6,8 +6,8 @@ use crate::answers::DefunctExpiry;
 use crate::answers::DefunctsExpired;
 use crate::answers::Shed;
 use crate::checks;
-use crate::table;
-use crate::table::Table;
+use crate::defuncts;
+use crate::defuncts::Table;
 use ids::LockId;
 use rules::Verdict;
 use state::DefunctLock;
@@ -19,19 +19,18 @@ ghost use lib.ListN.{take};
 ghost use Rattle.lists.specs.Lists.{filter};
 ghost use Rattle.state.specs.Model.{modelOf, stateOf, Tidy};
 ghost use Rattle.operations.specs.Acknowledge.{shedIn, acknowledgedTo, acknowledgeOn, lapsed, idsOfEntries, shed, expireDefunctOn};
-ghost use Rattle.operations.specs.Code.{entriesOf, Ranked};
-ghost use Rattle.operations.specs.Place.{idsTold, shedBy, expiredTable};
+ghost use Rattle.operations.specs.Code.{entriesOf, Ranked, idsTold, shedBy, expiredTable};
 
 // The state with the table's entries, one revision on. At the last revision they are gone all the same (8).
-fn with_entries(s: LockState, t: Table) -> LockState
-    requires { ⌜ Tidy s × (t .count ≤ 128) ⌝ }
-    ensures { λ r. ⌜ r ≡ stateOf (shedIn (modelOf s) (entriesOf t)) ⌝ }
+fn with_entries(s: LockState, table: Table) -> LockState
+    requires { ⌜ Tidy s × (table .count ≤ 128) ⌝ }
+    ensures { λ r. ⌜ r ≡ stateOf (shedIn (modelOf s) (entriesOf table)) ⌝ }
 {
-    let e = table::narrowed(t);
+    let entries = defuncts::narrowed(table);
     let mut next = s;
-    next.defunct = e;
-    next.defuncts = t.count;
-    if s.revision == 18446744073709551615 {
+    next.defunct = entries;
+    next.defuncts = table.count;
+    if s.revision == u64::MAX {
         return next;
     }
     next.revision = s.revision + 1;
@@ -43,7 +42,7 @@ fn with_entries(s: LockState, t: Table) -> LockState
 fn settle(s: LockState, next: LockState) -> Acknowledged
     ensures { λ r. ⌜ r ≡ acknowledgedTo s next ⌝ }
 {
-    if s.revision == 18446744073709551615 {
+    if s.revision == u64::MAX {
         return Acknowledged {
             told: Acknowledgement::RevisionOverflow,
             state: next,
@@ -79,32 +78,32 @@ pub fn acknowledge_defunct(s: LockState, id: LockId) -> Acknowledged
             state: s,
         };
     }
-    let whole = table::widened(e, s.defuncts);
-    let rest = table::splice(whole, id);
+    let whole = defuncts::widened(e, s.defuncts);
+    let rest = defuncts::splice(whole, id);
     let next = with_entries(s, rest);
     settle(s, next)
 }
 
 // ---- expire_defunct
-fn has_lapsed(clock: u64, d: DefunctLock) -> bool
-    ensures { λ r. ⌜ r ≡ lapsed clock d ⌝ }
+fn has_lapsed(now: u64, d: DefunctLock) -> bool
+    ensures { λ r. ⌜ r ≡ lapsed now d ⌝ }
 {
-    d.expires <= clock
+    d.expires <= now
 }
 
 // The ids of the entries that have expired, ascending.
-fn lapsed_ids(l: [DefunctLock; LockState::DEFUNCT], n: usize, clock: u64) -> Shed
+fn lapsed_ids(entries: [DefunctLock; LockState::DEFUNCT], n: usize, now: u64) -> Shed
     requires { ⌜ n ≤ 128 ⌝ }
-    ensures { λ r. ⌜ r ≡ idsTold (idsOfEntries (filter (lapsed clock) (take n l))) ⌝ }
+    ensures { λ r. ⌜ r ≡ idsTold (idsOfEntries (filter (lapsed now) (take n entries))) ⌝ }
 {
     let z = LockId { hi: 0, lo: 0 };
     let mut ids = [z; LockState::DEFUNCT];
     let mut w: usize = 0;
     let mut i: usize = 0;
     while i < n {
-        let d = l[i];
+        let d = entries[i];
         i += 1;
-        if has_lapsed(clock, d) {
+        if has_lapsed(now, d) {
             let id = d.lock.id;
             ids[w] = id;
             w += 1;
@@ -117,19 +116,19 @@ fn lapsed_ids(l: [DefunctLock; LockState::DEFUNCT], n: usize, clock: u64) -> She
     }
 }
 
-fn without_lapsed(t: Table, clock: u64) -> Table
-    requires { ⌜ Ranked t ⌝ }
-    ensures { λ r. ⌜ r ≡ expiredTable clock t ⌝ }
+fn without_lapsed(table: Table, now: u64) -> Table
+    requires { ⌜ Ranked table ⌝ }
+    ensures { λ r. ⌜ r ≡ expiredTable now table ⌝ }
 {
-    let n = t.count;
-    let mut goes = [false; table::PLACES];
+    let n = table.count;
+    let mut goes = [false; defuncts::PLACES];
     let mut i: usize = 0;
     while i < n {
-        let d = t.entries[i];
-        goes[i] = has_lapsed(clock, d);
+        let d = table.entries[i];
+        goes[i] = has_lapsed(now, d);
         i += 1;
     }
-    table::shed(t, goes)
+    defuncts::shed(table, goes)
 }
 
 fn none_shed(a: DefunctExpiry, s: LockState) -> DefunctsExpired
@@ -150,7 +149,7 @@ fn none_shed(a: DefunctExpiry, s: LockState) -> DefunctsExpired
 fn settle_shed(s: LockState, told: Shed, next: LockState) -> DefunctsExpired
     ensures { λ r. ⌜ r ≡ shedBy s told next ⌝ }
 {
-    if s.revision == 18446744073709551615 {
+    if s.revision == u64::MAX {
         return none_shed(DefunctExpiry::RevisionOverflow, next);
     }
     let v = rules::broken(next);
@@ -161,20 +160,20 @@ fn settle_shed(s: LockState, told: Shed, next: LockState) -> DefunctsExpired
 }
 
 // The entries whose original_expires_at has come go; their ids are listed.
-pub fn expire_defunct(s: LockState, clock: u64) -> DefunctsExpired
-    ensures { λ r. ⌜ r ≡ expireDefunctOn s clock ⌝ }
+pub fn expire_defunct(s: LockState, now: u64) -> DefunctsExpired
+    ensures { λ r. ⌜ r ≡ expireDefunctOn s now ⌝ }
 {
     let v = rules::broken(s);
     if let Verdict::Broken(n) = v {
         return none_shed(DefunctExpiry::UnsoundState(n), s);
     }
     let e = s.defunct;
-    let told = lapsed_ids(e, s.defuncts, clock);
+    let told = lapsed_ids(e, s.defuncts, now);
     if told.gone == 0 {
         return none_shed(DefunctExpiry::Done, s);
     }
-    let whole = table::widened(e, s.defuncts);
-    let rest = without_lapsed(whole, clock);
+    let whole = defuncts::widened(e, s.defuncts);
+    let rest = without_lapsed(whole, now);
     let next = with_entries(s, rest);
     settle_shed(s, told, next)
 }

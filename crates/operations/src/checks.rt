@@ -1,4 +1,5 @@
-// The checks of insertions and of a replacement. Each equals its definition; lists are the first n places of an array.
+// The checks of insertions and of a replacement, in the order of specs/Checks.antt, each with the number that it refuses
+// by. Lists are the first n places of an array.
 // SPDX-License-Identifier: Apache-2.0
 use crate::answers;
 use crate::answers::Answer;
@@ -7,14 +8,18 @@ use ids::LockId;
 use state::ActiveLock;
 use state::DefunctLock;
 use state::LockState;
-ghost use mathlib.Core.Option.{some};
 ghost use mathlib.Core.Path.{_≡_};
 ghost use Prim.Native.Nat.{ℕ, _≤_};
+ghost use lib.Dec.{eqb};
 ghost use lib.ListN.{take};
-ghost use Rattle.lists.specs.Lists.{any, find};
-ghost use Rattle.state.specs.Locks.{hasIdD};
-ghost use Rattle.operations.specs.Checks.{checkList, checkId, checkScope, checkParent, checkNesting, conflicts, checkClear, checkInsert, checkRevision, toldChild};
-ghost use Rattle.operations.specs.Code.{misfit, flagged};
+ghost use Rattle.lists.specs.Lists.{any};
+ghost use Rattle.ids.specs.Words.{ascendingIds};
+ghost use Rattle.state.specs.Locks.{hasId, hasIdD};
+ghost use Rattle.operations.specs.declared.answers.Answer.the-variants.{Done, NoRoom};
+ghost use Rattle.operations.specs.Answers.{refuseIf, firstRefusal};
+ghost use Rattle.operations.specs.Trees.{inTrees};
+ghost use Rattle.operations.specs.Checks.{checkList, checkId, checkScope, conflicts, checkClear, checkRevision, checkRoot, settledLock, checkActive, checkListed, checkChild, outside, checkHolder};
+ghost use Rattle.operations.specs.Code.{flagged, checkParent, checkNesting, checkInsert, checkNamed};
 
 // ---- 14
 pub(crate) fn check_list(list: &[u64]) -> Answer
@@ -27,13 +32,28 @@ pub(crate) fn check_list(list: &[u64]) -> Answer
 }
 
 // ---- 1
-pub(crate) fn id_defunct(t: [DefunctLock; LockState::DEFUNCT], m: usize, id: LockId) -> bool
-    requires { ⌜ m ≤ 128 ⌝ }
-    ensures { λ r. ⌜ r ≡ any (hasIdD id) (take m t) ⌝ }
+fn id_active(locks: [ActiveLock; LockState::ACTIVE], n: usize, id: LockId) -> bool
+    requires { ⌜ n ≤ 64 ⌝ }
+    ensures { λ r. ⌜ r ≡ any (hasId id) (take n locks) ⌝ }
 {
     let mut i: usize = 0;
-    while i < m {
-        let d = t[i];
+    while i < n {
+        let a = locks[i];
+        i += 1;
+        if state::has_id(id, a) {
+            return true;
+        }
+    }
+    false
+}
+
+pub(crate) fn id_defunct(entries: [DefunctLock; LockState::DEFUNCT], n: usize, id: LockId) -> bool
+    requires { ⌜ n ≤ 128 ⌝ }
+    ensures { λ r. ⌜ r ≡ any (hasIdD id) (take n entries) ⌝ }
+{
+    let mut i: usize = 0;
+    while i < n {
+        let d = entries[i];
         i += 1;
         if state::has_id_defunct(id, d) {
             return true;
@@ -43,32 +63,36 @@ pub(crate) fn id_defunct(t: [DefunctLock; LockState::DEFUNCT], m: usize, id: Loc
 }
 
 pub(crate) fn check_id(
-    l: [ActiveLock; LockState::ACTIVE],
+    locks: [ActiveLock; LockState::ACTIVE],
     n: usize,
-    t: [DefunctLock; LockState::DEFUNCT],
+    entries: [DefunctLock; LockState::DEFUNCT],
     m: usize,
-    x: ActiveLock,
+    new: ActiveLock,
 ) -> Answer
     requires { ⌜ (n ≤ 64) × (m ≤ 128) ⌝ }
-    ensures { λ r. ⌜ r ≡ checkId (take n l) (take m t) x ⌝ }
+    ensures { λ r. ⌜ r ≡ checkId (take n locks) (take m entries) new ⌝ }
 {
-    let id = x.lock.id;
-    if trees::id_active(l, n, id) | id_defunct(t, m, id) {
+    let id = new.lock.id;
+    if id_active(locks, n, id) | id_defunct(entries, m, id) {
         return Answer::DuplicateId(id);
     }
     Answer::Done
 }
 
 // ---- 2
-pub(crate) fn check_scope(l: [ActiveLock; LockState::ACTIVE], n: usize, x: ActiveLock) -> Answer
+pub(crate) fn check_scope(
+    locks: [ActiveLock; LockState::ACTIVE],
+    n: usize,
+    new: ActiveLock,
+) -> Answer
     requires { ⌜ n ≤ 64 ⌝ }
-    ensures { λ r. ⌜ r ≡ checkScope (take n l) x ⌝ }
+    ensures { λ r. ⌜ r ≡ checkScope (take n locks) new ⌝ }
 {
-    let k = x.lock;
-    let scope = k.scope;
+    let lock = new.lock;
+    let scope = lock.scope;
     let mut i: usize = 0;
     while i < n {
-        let a = l[i];
+        let a = locks[i];
         i += 1;
         if lookups::on_scope(scope, a) {
             return Answer::DuplicateScope;
@@ -77,65 +101,66 @@ pub(crate) fn check_scope(l: [ActiveLock; LockState::ACTIVE], n: usize, x: Activ
     Answer::Done
 }
 
-// ---- 4, 5, 11.3, 11.4
-fn check_parent(x: ActiveLock, p: ActiveLock) -> Answer
-    ensures { λ r. ⌜ r ≡ checkParent x p ⌝ }
+// ---- 5, 11.3, 11.4
+fn check_parent(new: ActiveLock, parent: ActiveLock) -> Answer
+    ensures { λ r. ⌜ r ≡ checkParent new parent ⌝ }
 {
-    let up = x.parent;
-    let id = x.lock.id;
-    let k = p.lock;
-    let s = k.scope;
-    if !state::is_vehicle(s) {
+    let up = new.parent;
+    let id = new.lock.id;
+    let lock = parent.lock;
+    let scope = lock.scope;
+    if !state::is_vehicle(scope) {
         return Answer::ParentNotVehicle(up);
     }
-    if p.lock.subject != x.lock.subject {
+    if parent.lock.subject != new.lock.subject {
         return Answer::OtherOwner(id, up);
     }
-    if !p.lock.coverage.contains(x.lock.coverage) {
+    if !parent.lock.coverage.contains(new.lock.coverage) {
         return Answer::NotCovered(id, up);
     }
     Answer::Done
 }
 
-fn check_nesting(l: [ActiveLock; LockState::ACTIVE], n: usize, x: ActiveLock) -> Answer
+// ---- 4, and then
+fn check_nesting(locks: [ActiveLock; LockState::ACTIVE], n: usize, new: ActiveLock) -> Answer
     requires { ⌜ n ≤ 64 ⌝ }
-    ensures { λ r. ⌜ r ≡ checkNesting (take n l) x ⌝ }
+    ensures { λ r. ⌜ r ≡ checkNesting (take n locks) new ⌝ }
 {
-    if !x.child {
+    if !new.child {
         return Answer::Done;
     }
-    let up = x.parent;
+    let up = new.parent;
     let mut i: usize = 0;
     while i < n {
-        let p = l[i];
+        let p = locks[i];
         i += 1;
         if state::has_id(up, p) {
-            return check_parent(x, p);
+            return check_parent(new, p);
         }
     }
     Answer::ParentNotFound(up)
 }
 
 // ---- 7
-fn in_conflict(x: ActiveLock, a: ActiveLock) -> bool
-    ensures { λ r. ⌜ r ≡ conflicts x a ⌝ }
+fn in_conflict(new: ActiveLock, a: ActiveLock) -> bool
+    ensures { λ r. ⌜ r ≡ conflicts new a ⌝ }
 {
-    let new = x.lock;
-    let s = new.scope;
-    a.lock.coverage.overlaps(x.lock.coverage)
-        & (a.lock.subject != x.lock.subject)
-        & !state::is_vehicle(s)
+    let lock = new.lock;
+    let scope = lock.scope;
+    a.lock.coverage.overlaps(new.lock.coverage)
+        & (a.lock.subject != new.lock.subject)
+        & !state::is_vehicle(scope)
 }
 
-fn check_clear(l: [ActiveLock; LockState::ACTIVE], n: usize, x: ActiveLock) -> Answer
+fn check_clear(locks: [ActiveLock; LockState::ACTIVE], n: usize, new: ActiveLock) -> Answer
     requires { ⌜ n ≤ 64 ⌝ }
-    ensures { λ r. ⌜ r ≡ checkClear (take n l) x ⌝ }
+    ensures { λ r. ⌜ r ≡ checkClear (take n locks) new ⌝ }
 {
     let mut i: usize = 0;
     while i < n {
-        let a = l[i];
+        let a = locks[i];
         i += 1;
-        if in_conflict(x, a) {
+        if in_conflict(new, a) {
             let id = a.lock.id;
             return Answer::CoverageConflict(id);
         }
@@ -143,67 +168,238 @@ fn check_clear(l: [ActiveLock; LockState::ACTIVE], n: usize, x: ActiveLock) -> A
     Answer::Done
 }
 
-// 2, 4, 5, 11.3, 11.4, 7
-pub(crate) fn check_insert(l: [ActiveLock; LockState::ACTIVE], n: usize, x: ActiveLock) -> Answer
+// ---- 2, 4, 5, 11.3, 11.4, 7
+pub(crate) fn check_insert(
+    locks: [ActiveLock; LockState::ACTIVE],
+    n: usize,
+    new: ActiveLock,
+) -> Answer
     requires { ⌜ n ≤ 64 ⌝ }
-    ensures { λ r. ⌜ r ≡ checkInsert (take n l) x ⌝ }
+    ensures { λ r. ⌜ r ≡ checkInsert (take n locks) new ⌝ }
 {
-    let a = check_scope(l, n, x);
+    let a = check_scope(locks, n, new);
     if !answers::is_done(a) {
         return a;
     }
-    let b = check_nesting(l, n, x);
+    let b = check_nesting(locks, n, new);
     if !answers::is_done(b) {
         return b;
     }
-    check_clear(l, n, x)
+    check_clear(locks, n, new)
 }
 
 // ---- 8
 pub(crate) fn check_revision(revision: u64) -> Answer
     ensures { λ r. ⌜ r ≡ checkRevision revision ⌝ }
 {
-    if revision == 18446744073709551615 {
+    if revision == u64::MAX {
         return Answer::RevisionOverflow;
     }
     Answer::Done
 }
 
-// ---- 11.3, 11.4 of the locks that the vehicle lock x takes in, which are marked
-fn is_misfit(x: ActiveLock, a: ActiveLock) -> bool
-    ensures { λ r. ⌜ r ≡ misfit x a ⌝ }
+// ---- 13: an insertion adds one active lock and only sheds defunct ones
+pub(crate) fn check_room(n: usize) -> Answer
+    ensures { λ r. ⌜ r ≡ refuseIf (eqb n 64) NoRoom Done ⌝ }
 {
-    (x.lock.subject != a.lock.subject) | !x.lock.coverage.contains(a.lock.coverage)
-}
-
-fn told_child(x: ActiveLock, a: ActiveLock) -> Answer
-    ensures { λ r. ⌜ r ≡ toldChild x (some a) ⌝ }
-{
-    let id = a.lock.id;
-    let up = x.lock.id;
-    if x.lock.subject == a.lock.subject {
-        return Answer::NotCovered(id, up);
+    if n == LockState::ACTIVE {
+        return Answer::NoRoom;
     }
-    Answer::OtherOwner(id, up)
+    Answer::Done
 }
 
-pub(crate) fn check_taken(
-    l: [ActiveLock; LockState::ACTIVE],
+// ---- 11.1
+pub(crate) fn check_root(new: ActiveLock) -> Answer
+    ensures { λ r. ⌜ r ≡ checkRoot new ⌝ }
+{
+    let lock = new.lock;
+    let scope = lock.scope;
+    if !state::is_vehicle(scope) | new.child {
+        return Answer::NotRootVehicle;
+    }
+    Answer::Done
+}
+
+// ---- 3
+fn check_active(locks: [ActiveLock; LockState::ACTIVE], n: usize, id: LockId) -> Answer
+    requires { ⌜ n ≤ 64 ⌝ }
+    ensures { λ r. ⌜ r ≡ checkActive (take n locks) id ⌝ }
+{
+    if id_active(locks, n, id) {
+        return Answer::Done;
+    }
+    Answer::ActiveLockNotFound(id)
+}
+
+fn is_settled(a: ActiveLock) -> bool
+    ensures { λ r. ⌜ r ≡ settledLock a ⌝ }
+{
+    let lock = a.lock;
+    let scope = lock.scope;
+    state::is_vehicle(scope) | a.child
+}
+
+// ---- 3, 11.2
+fn check_listed(locks: [ActiveLock; LockState::ACTIVE], n: usize, id: LockId) -> Answer
+    requires { ⌜ n ≤ 64 ⌝ }
+    ensures { λ r. ⌜ r ≡ checkListed (take n locks) id ⌝ }
+{
+    let mut there = false;
+    let mut i: usize = 0;
+    while i < n {
+        let a = locks[i];
+        i += 1;
+        let h = state::has_id(id, a);
+        there = there | h;
+        if h & is_settled(a) {
+            return Answer::BadChild(id);
+        }
+    }
+    if there {
+        return Answer::Done;
+    }
+    Answer::ActiveLockNotFound(id)
+}
+
+// An id that names a child, or a root.
+fn check_named(locks: [ActiveLock; LockState::ACTIVE], n: usize, id: LockId, child: bool) -> Answer
+    requires { ⌜ n ≤ 64 ⌝ }
+    ensures { λ r. ⌜ r ≡ checkNamed child (take n locks) id ⌝ }
+{
+    if child {
+        return check_listed(locks, n, id);
+    }
+    check_active(locks, n, id)
+}
+
+// Of the listed ids the lowest that is refused. A list need not be sorted and may repeat an id.
+pub(crate) fn check_ids(
+    locks: [ActiveLock; LockState::ACTIVE],
     n: usize,
-    takes: [bool; LockState::ACTIVE],
-    x: ActiveLock,
+    list: &[u64],
+    child: bool,
 ) -> Answer
     requires { ⌜ n ≤ 64 ⌝ }
-    ensures { λ r. ⌜ r ≡ toldChild x (find (misfit x) (flagged (take n takes) (take n l))) ⌝ }
+    ensures { λ r. ⌜ r ≡ firstRefusal (checkNamed child (take n locks)) (ascendingIds (now (list .entry))) ⌝ }
+{
+    let words = list.len();
+    let mut found = false;
+    let mut best = LockId { hi: 0, lo: 0 };
+    let mut j: usize = 0;
+    while 1 < words - j {
+        let hi = list[j];
+        let lo = list[j + 1];
+        let id = LockId { hi: hi, lo: lo };
+        j += 2;
+        if !found | ids::less(id, best) {
+            let a = check_named(locks, n, id, child);
+            if !answers::is_done(a) {
+                best = id;
+                found = true;
+            }
+        }
+    }
+    if !found {
+        return Answer::Done;
+    }
+    check_named(locks, n, best, child)
+}
+
+// ---- 11.3, 11.4 of one lock that the new vehicle lock takes in
+fn check_child(new: ActiveLock, child: ActiveLock) -> Answer
+    ensures { λ r. ⌜ r ≡ checkChild new child ⌝ }
+{
+    let id = child.lock.id;
+    let up = new.lock.id;
+    if new.lock.subject != child.lock.subject {
+        return Answer::OtherOwner(id, up);
+    }
+    if !new.lock.coverage.contains(child.lock.coverage) {
+        return Answer::NotCovered(id, up);
+    }
+    Answer::Done
+}
+
+// Of the marked locks the first that is refused.
+pub(crate) fn check_taken(
+    locks: [ActiveLock; LockState::ACTIVE],
+    n: usize,
+    takes: [bool; LockState::ACTIVE],
+    new: ActiveLock,
+) -> Answer
+    requires { ⌜ n ≤ 64 ⌝ }
+    ensures { λ r. ⌜ r ≡ firstRefusal (checkChild new) (flagged (take n takes) (take n locks)) ⌝ }
 {
     let mut i: usize = 0;
     while i < n {
-        let a = l[i];
+        let a = locks[i];
         let b = takes[i];
         i += 1;
-        if b & is_misfit(x, a) {
-            return told_child(x, a);
+        if b {
+            let told = check_child(new, a);
+            if !answers::is_done(told) {
+                return told;
+            }
         }
+    }
+    Answer::Done
+}
+
+// ---- 6
+// Whether the lock is in the tree of a listed root.
+fn in_trees(locks: [ActiveLock; LockState::ACTIVE], n: usize, list: &[u64], a: ActiveLock) -> bool
+    requires { ⌜ n ≤ 64 ⌝ }
+    ensures { λ r. ⌜ r ≡ inTrees (now (list .entry)) (take n locks) a ⌝ }
+{
+    let mut i: usize = 0;
+    while i < n {
+        let r = locks[i];
+        i += 1;
+        if trees::in_tree(r, a) {
+            if ids::listed(list, r.lock.id) {
+                return true;
+            }
+        }
+    }
+    false
+}
+
+// Whether a holder of the scope is outside the trees.
+fn held_outside(
+    locks: [ActiveLock; LockState::ACTIVE],
+    n: usize,
+    list: &[u64],
+    new: ActiveLock,
+) -> bool
+    requires { ⌜ n ≤ 64 ⌝ }
+    ensures { λ r. ⌜ r ≡ any (outside (now (list .entry)) (take n locks) new) (take n locks) ⌝ }
+{
+    let lock = new.lock;
+    let scope = lock.scope;
+    let mut i: usize = 0;
+    while i < n {
+        let a = locks[i];
+        i += 1;
+        if lookups::on_scope(scope, a) {
+            if !in_trees(locks, n, list, a) {
+                return true;
+            }
+        }
+    }
+    false
+}
+
+pub(crate) fn check_holder(
+    locks: [ActiveLock; LockState::ACTIVE],
+    n: usize,
+    list: &[u64],
+    new: ActiveLock,
+) -> Answer
+    requires { ⌜ n ≤ 64 ⌝ }
+    ensures { λ r. ⌜ r ≡ checkHolder (take n locks) (now (list .entry)) new ⌝ }
+{
+    if held_outside(locks, n, list, new) {
+        return Answer::ReplacementScopeConflict;
     }
     Answer::Done
 }

@@ -16,8 +16,7 @@ ghost use mathlib.Core.Path.{_≡_};
 ghost use mathlib.Core.List.{[]};
 ghost use mathlib.Core.Option.{some};
 ghost use Rattle.state.specs.Model.{Tidy};
-ghost use Rattle.operations.specs.Delete.{deleted, deleteFound, deleteOn, expired, beginExpirationOn};
-ghost use Rattle.operations.specs.Place.{asExpiration, asExpired};
+ghost use Rattle.operations.specs.Delete.{deleted, deleteFound, deleteOn, expired, asExpiration, asExpired, beginExpirationOn};
 
 fn kept(a: Deletion, s: LockState) -> Deleted
     ensures { λ r. ⌜ r ≡ deleted a [] s ⌝ }
@@ -38,25 +37,25 @@ fn remove(s: LockState, r: ActiveLock) -> Deleted
     requires { ⌜ Tidy s ⌝ }
     ensures { λ x. ⌜ x ≡ deleteFound s (r .lock .id) (some r) ⌝ }
 {
-    if s.revision == 18446744073709551615 {
+    if s.revision == u64::MAX {
         return kept(Deletion::RevisionOverflow, s);
     }
-    let l = s.active;
-    let t = trees::tree_out(l, s.actives, r);
-    let left = t.kept;
+    let locks = s.active;
+    let cut = trees::tree_out(locks, s.actives, r);
+    let left = cut.kept;
     let mut next = s;
     next.revision = s.revision + 1;
     next.active = left;
-    next.actives = t.left;
+    next.actives = cut.left;
     let v = rules::broken(next);
     if let Verdict::Broken(_) = v {
         return kept(Deletion::Invariant, s);
     }
-    let removed = t.removed;
+    let removed = cut.removed;
     Deleted {
         told: Removal {
             answer: Deletion::Done,
-            gone: t.gone,
+            gone: cut.gone,
             removed,
         },
         state: next,
@@ -125,8 +124,8 @@ fn as_expired(d: Deleted) -> Expired
 }
 
 // A lock whose expires_at has come goes as by a deletion.
-pub fn begin_expiration(s: LockState, id: LockId, clock: u64) -> Expired
-    ensures { λ r. ⌜ r ≡ beginExpirationOn s id clock ⌝ }
+pub fn begin_expiration(s: LockState, id: LockId, now: u64) -> Expired
+    ensures { λ r. ⌜ r ≡ beginExpirationOn s id now ⌝ }
 {
     let v = rules::broken(s);
     if let Verdict::Broken(n) = v {
@@ -137,7 +136,7 @@ pub fn begin_expiration(s: LockState, id: LockId, clock: u64) -> Expired
         return stays(Expiration::Stale, s);
     }
     let r = s.active[i];
-    if clock < r.expires {
+    if now < r.expires {
         return stays(Expiration::NotDue(r.expires), s);
     }
     let d = remove(s, r);

@@ -4,33 +4,30 @@ use crate::answers;
 use crate::answers::Answer;
 use crate::answers::Inserted;
 use crate::checks;
-use crate::table;
+use crate::defuncts;
 use ids::LockId;
 use rules::Verdict;
 use state::ActiveLock;
 use state::LockState;
 ghost use mathlib.Core.Path.{_≡_};
 ghost use Prim.Native.Nat.{_≤_, _<_};
-ghost use lib.Dec.{eqb};
 ghost use lib.ListN.{take};
 ghost use Rattle.lists.specs.Lists.{insertBy};
 ghost use Rattle.lists.specs.Places.{inPlaces, opened};
 ghost use Rattle.state.specs.Locks.{akey, blankActive};
 ghost use Rattle.state.specs.Model.{modelOf, stateOf, full, Tidy};
-ghost use Rattle.operations.specs.declared.answers.Answer.the-variants.{Done, NoRoom};
-ghost use Rattle.operations.specs.Answers.{refuseIf};
 ghost use Rattle.operations.specs.Checks.{lastRevision};
-ghost use Rattle.operations.specs.Insert.{insertedIn, judgeInsert, closedInsert, insertActiveOn};
-ghost use Rattle.operations.specs.Code.{Placed, Ready, placeOf};
+ghost use Rattle.operations.specs.Insert.{insertedIn, insertActiveOn};
+ghost use Rattle.operations.specs.Code.{Placed, Ready, placeOf, judgeBundled, insertedBy};
 
 // ---- a lock put in order
-fn place_of(l: [ActiveLock; LockState::ACTIVE], n: usize, id: LockId) -> usize
+fn place_of(locks: [ActiveLock; LockState::ACTIVE], n: usize, id: LockId) -> usize
     requires { ⌜ n ≤ 64 ⌝ }
-    ensures { λ r. ⌜ r ≡ placeOf akey id (take n l) ⌝ }
+    ensures { λ r. ⌜ r ≡ placeOf akey id (take n locks) ⌝ }
 {
     let mut i: usize = 0;
     while i < n {
-        let a = l[i];
+        let a = locks[i];
         if ids::less(id, a.lock.id) {
             return i;
         }
@@ -59,39 +56,30 @@ fn open_at(
 }
 
 pub(crate) fn put_in(
-    l: [ActiveLock; LockState::ACTIVE],
+    locks: [ActiveLock; LockState::ACTIVE],
     n: usize,
-    x: ActiveLock,
+    new: ActiveLock,
 ) -> [ActiveLock; LockState::ACTIVE]
-    requires { ⌜ Placed l n × (n < 64) ⌝ }
-    ensures { λ r. ⌜ r ≡ inPlaces 64 blankActive (insertBy akey x (take n l)) ⌝ }
+    requires { ⌜ Placed locks n × (n < 64) ⌝ }
+    ensures { λ r. ⌜ r ≡ inPlaces 64 blankActive (insertBy akey new (take n locks)) ⌝ }
 {
-    let k = place_of(l, n, x.lock.id);
-    open_at(l, n, k, x)
+    let at = place_of(locks, n, new.lock.id);
+    open_at(locks, n, at, new)
 }
 
-// ---- 13: an insertion adds one active lock and only sheds defunct ones
-pub(crate) fn check_room(n: usize) -> Answer
-    ensures { λ r. ⌜ r ≡ refuseIf (eqb n 64) NoRoom Done ⌝ }
-{
-    if n == LockState::ACTIVE {
-        return Answer::NoRoom;
-    }
-    Answer::Done
-}
-
-fn judged(s: LockState, x: ActiveLock) -> Answer
+// ---- the checks, and whether there is room for one lock more
+fn judged(s: LockState, new: ActiveLock) -> Answer
     requires { ⌜ Tidy s ⌝ }
-    ensures { λ r. ⌜ r ≡ judgeInsert full (modelOf s) x ⌝ }
+    ensures { λ r. ⌜ r ≡ judgeBundled full (modelOf s) new ⌝ }
 {
-    let l = s.active;
+    let locks = s.active;
     let n = s.actives;
-    let t = s.defunct;
-    let a = checks::check_id(l, n, t, s.defuncts, x);
+    let entries = s.defunct;
+    let a = checks::check_id(locks, n, entries, s.defuncts, new);
     if !answers::is_done(a) {
         return a;
     }
-    let b = checks::check_insert(l, n, x);
+    let b = checks::check_insert(locks, n, new);
     if !answers::is_done(b) {
         return b;
     }
@@ -99,41 +87,41 @@ fn judged(s: LockState, x: ActiveLock) -> Answer
     if !answers::is_done(r) {
         return r;
     }
-    check_room(n)
+    checks::check_room(n)
 }
 
 // ---- the change
-pub(crate) fn inserted(s: LockState, x: ActiveLock) -> LockState
+pub(crate) fn inserted(s: LockState, new: ActiveLock) -> LockState
     requires { ⌜ Ready s × (s .actives < 64) × (s .revision ≡ lastRevision → ⊥) ⌝ }
-    ensures { λ r. ⌜ r ≡ stateOf (insertedIn (modelOf s) x) ⌝ }
+    ensures { λ r. ⌜ r ≡ stateOf (insertedIn (modelOf s) new) ⌝ }
 {
-    let l = s.active;
-    let t = s.defunct;
-    let a = put_in(l, s.actives, x);
-    if !table::any_superseded(t, s.defuncts, x) {
+    let locks = s.active;
+    let entries = s.defunct;
+    let active = put_in(locks, s.actives, new);
+    if !defuncts::any_superseded(entries, s.defuncts, new) {
         return LockState {
             revision: s.revision + 1,
-            active: a,
+            active: active,
             actives: s.actives + 1,
-            defunct: t,
+            defunct: entries,
             defuncts: s.defuncts,
         };
     }
-    let w = table::widened(t, s.defuncts);
-    let u = table::superseding(w, x);
-    let d = table::narrowed(u);
+    let wide = defuncts::widened(entries, s.defuncts);
+    let rest = defuncts::superseding(wide, new);
+    let defunct = defuncts::narrowed(rest);
     LockState {
         revision: s.revision + 1,
-        active: a,
+        active: active,
         actives: s.actives + 1,
-        defunct: d,
-        defuncts: u.count,
+        defunct: defunct,
+        defuncts: rest.count,
     }
 }
 
 // ---- the closing check, as the original's validate_invariants
 pub(crate) fn closed(s: LockState, next: LockState) -> Inserted
-    ensures { λ r. ⌜ r ≡ closedInsert s next ⌝ }
+    ensures { λ r. ⌜ r ≡ insertedBy s next ⌝ }
 {
     let v = rules::broken(next);
     match v {
@@ -158,11 +146,11 @@ pub fn insert_active(s: LockState, lock: ActiveLock) -> Inserted
             state: s,
         };
     }
-    let x = state::normal_form(lock);
-    let a = judged(s, x);
+    let new = state::normal_form(lock);
+    let a = judged(s, new);
     if !answers::is_done(a) {
         return Inserted { told: a, state: s };
     }
-    let next = inserted(s, x);
+    let next = inserted(s, new);
     closed(s, next)
 }

@@ -3,10 +3,11 @@
 pub mod acknowledge;
 pub mod answers;
 mod checks;
+mod defuncts;
 pub mod delete;
 pub mod insert;
+pub mod insert_vehicle;
+pub mod numbers;
 pub mod renew;
 pub mod replace;
-mod table;
 mod trees;
-pub mod vehicle;

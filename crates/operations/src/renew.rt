@@ -9,8 +9,8 @@ use state::LockState;
 ghost use mathlib.Core.Path.{_≡_};
 ghost use Prim.Native.Nat.{_≤_, _<_};
 ghost use Rattle.state.specs.Model.{modelOf};
-ghost use Rattle.operations.specs.Place.{placeIn, judgeLock};
-ghost use Rattle.operations.specs.Renew.{extended, closedRenew, renewOn};
+ghost use Rattle.operations.specs.Code.{placeIn};
+ghost use Rattle.operations.specs.Renew.{extended, judgeLock, closedRenew, renewOn};
 
 // The place of the lock with this id; the count where there is none.
 pub(crate) fn place_of(s: LockState, id: LockId) -> usize
@@ -41,16 +41,16 @@ fn extend(a: ActiveLock, expires: u64, given: bool, metadata: u32) -> ActiveLock
 }
 
 // 9, 10, 8, of the lock that was found.
-fn judge(a: ActiveLock, revision: u64, expires: u64, clock: u64) -> Renewal
-    ensures { λ r. ⌜ r ≡ judgeLock revision expires clock a ⌝ }
+fn judge(a: ActiveLock, revision: u64, expires: u64, now: u64) -> Renewal
+    ensures { λ r. ⌜ r ≡ judgeLock revision expires now a ⌝ }
 {
-    if a.expires <= clock {
+    if a.expires <= now {
         return Renewal::LockExpired;
     }
     if expires <= a.expires {
         return Renewal::RenewalNotExtension;
     }
-    if revision == 18446744073709551615 {
+    if revision == u64::MAX {
         return Renewal::RevisionOverflow;
     }
     Renewal::Done
@@ -78,11 +78,11 @@ pub fn renew(
     s: LockState,
     id: LockId,
     expires: u64,
-    clock: u64,
+    now: u64,
     given: bool,
     metadata: u32,
 ) -> Renewed
-    ensures { λ r. ⌜ r ≡ renewOn s id expires clock given metadata ⌝ }
+    ensures { λ r. ⌜ r ≡ renewOn s id expires now given metadata ⌝ }
 {
     let v = rules::broken(s);
     if let Verdict::Broken(n) = v {
@@ -99,7 +99,7 @@ pub fn renew(
         };
     }
     let a = s.active[i];
-    let told = judge(a, s.revision, expires, clock);
+    let told = judge(a, s.revision, expires, now);
     let Renewal::Done = told else {
         return Renewed { told, state: s };
     };

@@ -6,13 +6,12 @@ use crate::answers::Answer;
 use crate::answers::Replaced;
 use crate::answers::Replacement;
 use crate::checks;
+use crate::defuncts;
+use crate::defuncts::Table;
 use crate::insert;
-use crate::table;
-use crate::table::Table;
+use crate::insert_vehicle;
 use crate::trees;
 use crate::trees::Split;
-use crate::vehicle;
-use ids::LockId;
 use rules::Verdict;
 use state::ActiveLock;
 use state::DefunctLock;
@@ -23,141 +22,64 @@ ghost use mathlib.Core.Path.{_≡_};
 ghost use Prim.Native.Nat.{_≤_};
 ghost use lib.ListN.{take};
 ghost use Rattle.lists.specs.Tests.{Yes};
-ghost use Rattle.lists.specs.Lists.{any, find, ascending};
+ghost use Rattle.lists.specs.Lists.{ascending};
 ghost use Rattle.lists.specs.Places.{inPlaces};
 ghost use Rattle.state.specs.Locks.{dkey};
 ghost use Rattle.state.specs.Model.{modelOf};
-ghost use Rattle.operations.specs.Answers.{andThen};
-ghost use Rattle.operations.specs.Table.{toDefunct, enterAll};
-ghost use Rattle.operations.specs.Trees.{inTrees};
-ghost use Rattle.operations.specs.Checks.{checkList, checkRoots, outside, checkHolder, checkEntry, checkInsert, checkRevision, toldChild};
-ghost use Rattle.operations.specs.Replace.{orphan, enteredOf, replaced, closedReplace, commitReplacementOn};
-ghost use Rattle.operations.specs.Code.{Placed, Ready, Cut, partsOf, tableOf, flagged, misfit, leftOn};
-
-// ---- 3: the lowest listed root that is missing
-fn check_roots(l: [ActiveLock; LockState::ACTIVE], n: usize, list: &[u64]) -> Answer
-    requires { ⌜ n ≤ 64 ⌝ }
-    ensures { λ r. ⌜ r ≡ checkRoots (take n l) (now (list .entry)) ⌝ }
-{
-    let k = list.len();
-    let mut found = false;
-    let mut best = LockId { hi: 0, lo: 0 };
-    let mut j: usize = 0;
-    while 1 < k - j {
-        let hi = list[j];
-        let lo = list[j + 1];
-        let id = LockId { hi: hi, lo: lo };
-        j += 2;
-        if !found | ids::less(id, best) {
-            if !trees::id_active(l, n, id) {
-                best = id;
-                found = true;
-            }
-        }
-    }
-    if !found {
-        return Answer::Done;
-    }
-    Answer::ActiveLockNotFound(best)
-}
-
-// ---- 6
-// Whether a is in the tree of a listed root.
-fn in_trees(l: [ActiveLock; LockState::ACTIVE], n: usize, list: &[u64], a: ActiveLock) -> bool
-    requires { ⌜ n ≤ 64 ⌝ }
-    ensures { λ r. ⌜ r ≡ inTrees (now (list .entry)) (take n l) a ⌝ }
-{
-    let mut i: usize = 0;
-    while i < n {
-        let r = l[i];
-        i += 1;
-        if trees::in_tree(r, a) {
-            if ids::listed(list, r.lock.id) {
-                return true;
-            }
-        }
-    }
-    false
-}
-
-// Whether a holder of the scope is outside the trees.
-fn held_outside(l: [ActiveLock; LockState::ACTIVE], n: usize, list: &[u64], x: ActiveLock) -> bool
-    requires { ⌜ n ≤ 64 ⌝ }
-    ensures { λ r. ⌜ r ≡ any (outside (now (list .entry)) (take n l) x) (take n l) ⌝ }
-{
-    let k = x.lock;
-    let scope = k.scope;
-    let mut i: usize = 0;
-    while i < n {
-        let a = l[i];
-        i += 1;
-        if lookups::on_scope(scope, a) {
-            if !in_trees(l, n, list, a) {
-                return true;
-            }
-        }
-    }
-    false
-}
-
-fn check_holder(l: [ActiveLock; LockState::ACTIVE], n: usize, list: &[u64], x: ActiveLock) -> Answer
-    requires { ⌜ n ≤ 64 ⌝ }
-    ensures { λ r. ⌜ r ≡ checkHolder (take n l) (now (list .entry)) x ⌝ }
-{
-    if held_outside(l, n, list, x) {
-        return Answer::ReplacementScopeConflict;
-    }
-    Answer::Done
-}
+ghost use Rattle.operations.specs.Answers.{andThen, firstRefusal};
+ghost use Rattle.operations.specs.Defuncts.{toDefunct, enterAll};
+ghost use Rattle.operations.specs.Checks.{checkList, checkRevision, checkChild};
+ghost use Rattle.operations.specs.Replace.{orphan, enteredOf, replaced, commitReplacementOn};
+ghost use Rattle.operations.specs.Code.{Placed, Ready, Cut, partsOf, tableOf, flagged, checkInsert, checkEntry, replacedBy, leftOn};
 
 // What is judged on the state at entry: 14, 3, 1, 6.
-fn judged_entry(s: LockState, list: &[u64], x: ActiveLock) -> Answer
+fn judged_entry(s: LockState, list: &[u64], new: ActiveLock) -> Answer
     requires { ⌜ (s .actives ≤ 64) × (s .defuncts ≤ 128) ⌝ }
-    ensures { λ r. ⌜ r ≡ andThen (checkList (now (list .entry))) (checkEntry (modelOf s .active) (modelOf s .defunct) (now (list .entry)) x) ⌝ }
+    ensures { λ r. ⌜ r ≡ andThen (checkList (now (list .entry))) (checkEntry (modelOf s .active) (modelOf s .defunct) (now (list .entry)) new) ⌝ }
 {
-    let l = s.active;
+    let locks = s.active;
     let n = s.actives;
-    let t = s.defunct;
+    let entries = s.defunct;
     let a = checks::check_list(list);
     if !answers::is_done(a) {
         return a;
     }
-    let b = check_roots(l, n, list);
+    let b = checks::check_ids(locks, n, list, false);
     if !answers::is_done(b) {
         return b;
     }
-    let d = checks::check_id(l, n, t, s.defuncts, x);
+    let d = checks::check_id(locks, n, entries, s.defuncts, new);
     if !answers::is_done(d) {
         return d;
     }
-    check_holder(l, n, list, x)
+    checks::check_holder(locks, n, list, new)
 }
 
 // ---- a vehicle lock takes in every other parentless lock of its subject
-fn is_orphan(x: ActiveLock, a: ActiveLock) -> bool
-    ensures { λ r. ⌜ r ≡ orphan x a ⌝ }
+fn is_orphan(new: ActiveLock, a: ActiveLock) -> bool
+    ensures { λ r. ⌜ r ≡ orphan new a ⌝ }
 {
-    let k = x.lock;
-    let s = k.scope;
-    state::is_vehicle(s)
-        & !state::has_id(x.lock.id, a)
+    let lock = new.lock;
+    let scope = lock.scope;
+    state::is_vehicle(scope)
+        & !state::has_id(new.lock.id, a)
         & !a.child
-        & (a.lock.subject == x.lock.subject)
+        & (a.lock.subject == new.lock.subject)
 }
 
 fn orphan_marks(
-    l: [ActiveLock; LockState::ACTIVE],
+    locks: [ActiveLock; LockState::ACTIVE],
     n: usize,
-    x: ActiveLock,
+    new: ActiveLock,
 ) -> [bool; LockState::ACTIVE]
     requires { ⌜ n ≤ 64 ⌝ }
-    ensures { λ r. ⌜ r ≡ inPlaces 64 false (map (orphan x) (take n l)) ⌝ }
+    ensures { λ r. ⌜ r ≡ inPlaces 64 false (map (orphan new) (take n locks)) ⌝ }
 {
     let mut takes = [false; LockState::ACTIVE];
     let mut i: usize = 0;
     while i < n {
-        let a = l[i];
-        takes[i] = is_orphan(x, a);
+        let a = locks[i];
+        takes[i] = is_orphan(new, a);
         i += 1;
     }
     takes
@@ -166,15 +88,15 @@ fn orphan_marks(
 // What is judged on the locks that stay: 2, 4, 5, 11.3, 11.4, 7, 8, 11.4 of those taken in.
 fn judged_left(
     revision: u64,
-    l: [ActiveLock; LockState::ACTIVE],
+    locks: [ActiveLock; LockState::ACTIVE],
     n: usize,
     takes: [bool; LockState::ACTIVE],
-    x: ActiveLock,
+    new: ActiveLock,
 ) -> Answer
     requires { ⌜ n ≤ 64 ⌝ }
-    ensures { λ r. ⌜ r ≡ andThen (checkInsert (take n l) x) (andThen (checkRevision revision) (toldChild x (find (misfit x) (flagged (take n takes) (take n l))))) ⌝ }
+    ensures { λ r. ⌜ r ≡ andThen (checkInsert (take n locks) new) (andThen (checkRevision revision) (firstRefusal (checkChild new) (flagged (take n takes) (take n locks)))) ⌝ }
 {
-    let a = checks::check_insert(l, n, x);
+    let a = checks::check_insert(locks, n, new);
     if !answers::is_done(a) {
         return a;
     }
@@ -182,26 +104,26 @@ fn judged_left(
     if !answers::is_done(b) {
         return b;
     }
-    checks::check_taken(l, n, takes, x)
+    checks::check_taken(locks, n, takes, new)
 }
 
 // ---- the change
 // The locks that went are entered as broken, and what the new lock covers goes.
 fn entered(
-    t: [DefunctLock; LockState::DEFUNCT],
+    entries: [DefunctLock; LockState::DEFUNCT],
     m: usize,
-    g: [ActiveLock; LockState::ACTIVE],
+    removed: [ActiveLock; LockState::ACTIVE],
     gone: usize,
-    x: ActiveLock,
+    new: ActiveLock,
     by: u32,
     at: u64,
 ) -> Table
-    requires { ⌜ (m ≤ 128) × (gone ≤ 64) × Yes (ascending dkey (enterAll (map (toDefunct x by at) (take gone g)) (take m t))) ⌝ }
-    ensures { λ r. ⌜ r ≡ tableOf (enteredOf x by at (take gone g) (take m t)) ⌝ }
+    requires { ⌜ (m ≤ 128) × (gone ≤ 64) × Yes (ascending dkey (enterAll (map (toDefunct new by at) (take gone removed)) (take m entries))) ⌝ }
+    ensures { λ r. ⌜ r ≡ tableOf (enteredOf new by at (take gone removed) (take m entries)) ⌝ }
 {
-    let w = table::widened(t, m);
-    let u = table::enter_all(w, g, gone, x, by, at);
-    table::superseding(u, x)
+    let wide = defuncts::widened(entries, m);
+    let table = defuncts::enter_all(wide, removed, gone, new, by, at);
+    defuncts::superseding(table, new)
 }
 
 fn refused(a: Answer, s: LockState) -> Replaced
@@ -226,7 +148,7 @@ fn closed(
     removed: [ActiveLock; LockState::ACTIVE],
 ) -> Replaced
     requires { ⌜ Placed removed gone ⌝ }
-    ensures { λ r. ⌜ r ≡ closedReplace s (take gone removed) next ⌝ }
+    ensures { λ r. ⌜ r ≡ replacedBy s (take gone removed) next ⌝ }
 {
     let v = rules::broken(next);
     if let Verdict::Broken(_) = v {
@@ -243,32 +165,32 @@ fn closed(
 }
 
 // The rest of a replacement, once the trees are out.
-fn settled(s: LockState, q: Split, x: ActiveLock, by: u32, at: u64) -> Replaced
-    requires { ⌜ Ready s × Cut q × Yes (ascending dkey (enterAll (map (toDefunct x by at) (partsOf q .gone)) (modelOf s .defunct))) ⌝ }
-    ensures { λ r. ⌜ r ≡ leftOn s (partsOf q) x by at ⌝ }
+fn settled(s: LockState, cut: Split, new: ActiveLock, by: u32, at: u64) -> Replaced
+    requires { ⌜ Ready s × Cut cut × Yes (ascending dkey (enterAll (map (toDefunct new by at) (partsOf cut .gone)) (modelOf s .defunct))) ⌝ }
+    ensures { λ r. ⌜ r ≡ leftOn s (partsOf cut) new by at ⌝ }
 {
-    let l = q.kept;
-    let n = q.left;
-    let takes = orphan_marks(l, n, x);
-    let a = judged_left(s.revision, l, n, takes, x);
+    let locks = cut.kept;
+    let n = cut.left;
+    let takes = orphan_marks(locks, n, new);
+    let a = judged_left(s.revision, locks, n, takes, new);
     if !answers::is_done(a) {
         return refused(a, s);
     }
-    let t = s.defunct;
-    let g = q.removed;
-    let u = entered(t, s.defuncts, g, q.gone, x, by, at);
-    if (n == LockState::ACTIVE) | (LockState::DEFUNCT < u.count) {
+    let entries = s.defunct;
+    let removed = cut.removed;
+    let table = entered(entries, s.defuncts, removed, cut.gone, new, by, at);
+    if (n == LockState::ACTIVE) | (LockState::DEFUNCT < table.count) {
         return refused(Answer::NoRoom, s);
     }
-    let c = vehicle::taken_in(l, n, takes, x);
+    let adopted = insert_vehicle::taken_in(locks, n, takes, new);
     let next = LockState {
         revision: s.revision + 1,
-        active: insert::put_in(c, n, x),
+        active: insert::put_in(adopted, n, new),
         actives: n + 1,
-        defunct: table::narrowed(u),
-        defuncts: u.count,
+        defunct: defuncts::narrowed(table),
+        defuncts: table.count,
     };
-    closed(s, next, q.gone, g)
+    closed(s, next, cut.gone, removed)
 }
 
 pub fn commit_replacement(
@@ -284,12 +206,12 @@ pub fn commit_replacement(
     if let Verdict::Broken(n) = v {
         return refused(Answer::UnsoundState(n), s);
     }
-    let x = state::normal_form(lock);
-    let a = judged_entry(s, list, x);
+    let new = state::normal_form(lock);
+    let a = judged_entry(s, list, new);
     if !answers::is_done(a) {
         return refused(a, s);
     }
-    let l = s.active;
-    let q = trees::roots_out(l, s.actives, list);
-    settled(s, q, x, by, at)
+    let locks = s.active;
+    let cut = trees::roots_out(locks, s.actives, list);
+    settled(s, cut, new, by, at)
 }

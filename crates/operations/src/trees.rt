@@ -54,9 +54,9 @@ fn picked(step: u8, r: ActiveLock, a: ActiveLock) -> bool
 }
 
 // One step: the places that go are listed, and those that stay are written into a fresh list.
-fn take_out(s: Places, l: [ActiveLock; LockState::ACTIVE], step: u8, r: ActiveLock) -> Places
+fn take_out(s: Places, locks: [ActiveLock; LockState::ACTIVE], step: u8, r: ActiveLock) -> Places
     requires { ⌜ Sorting s ⌝ }
-    ensures { λ x. ⌜ x ≡ placesOf (takeHalves (picksAt step l r) (halvesOf s)) ⌝ }
+    ensures { λ x. ⌜ x ≡ placesOf (takeHalves (picksAt step locks r) (halvesOf s)) ⌝ }
 {
     let n = s.left;
     let mut kept = [0usize; LockState::ACTIVE];
@@ -67,7 +67,7 @@ fn take_out(s: Places, l: [ActiveLock; LockState::ACTIVE], step: u8, r: ActiveLo
     while i < n {
         let j = s.kept[i];
         i += 1;
-        let a = l[j];
+        let a = locks[j];
         if picked(step, r, a) {
             went[g] = j;
             g += 1;
@@ -85,24 +85,24 @@ fn take_out(s: Places, l: [ActiveLock; LockState::ACTIVE], step: u8, r: ActiveLo
 }
 
 // The tree of r goes: its children, then what a group covers, then r.
-fn cut_tree(s: Places, l: [ActiveLock; LockState::ACTIVE], r: ActiveLock) -> Places
+fn cut_tree(s: Places, locks: [ActiveLock; LockState::ACTIVE], r: ActiveLock) -> Places
     requires { ⌜ Sorting s ⌝ }
-    ensures { λ x. ⌜ x ≡ placesOf (treeHalves l r (halvesOf s)) ⌝ }
+    ensures { λ x. ⌜ x ≡ placesOf (treeHalves locks r (halvesOf s)) ⌝ }
 {
-    take_out(take_out(take_out(s, l, 0, r), l, 1, r), l, 2, r)
+    take_out(take_out(take_out(s, locks, 0, r), locks, 1, r), locks, 2, r)
 }
 
 // Whether a lock that stays has the id.
-fn is_left(s: Places, l: [ActiveLock; LockState::ACTIVE], id: LockId) -> bool
+fn is_left(s: Places, locks: [ActiveLock; LockState::ACTIVE], id: LockId) -> bool
     requires { ⌜ Sorting s ⌝ }
-    ensures { λ r. ⌜ r ≡ any (hasId id) (map (lockAt l) (halvesOf s .kept)) ⌝ }
+    ensures { λ r. ⌜ r ≡ any (hasId id) (map (lockAt locks) (halvesOf s .kept)) ⌝ }
 {
     let n = s.left;
     let mut i: usize = 0;
     while i < n {
         let j = s.kept[i];
         i += 1;
-        let a = l[j];
+        let a = locks[j];
         if state::has_id(id, a) {
             return true;
         }
@@ -111,12 +111,12 @@ fn is_left(s: Places, l: [ActiveLock; LockState::ACTIVE], id: LockId) -> bool
 }
 
 // A root that went with an earlier tree takes nothing with it.
-fn root_out(s: Places, l: [ActiveLock; LockState::ACTIVE], r: ActiveLock) -> Places
+fn root_out(s: Places, locks: [ActiveLock; LockState::ACTIVE], r: ActiveLock) -> Places
     requires { ⌜ Sorting s ⌝ }
-    ensures { λ x. ⌜ x ≡ placesOf (rootHalves l r (halvesOf s)) ⌝ }
+    ensures { λ x. ⌜ x ≡ placesOf (rootHalves locks r (halvesOf s)) ⌝ }
 {
-    if is_left(s, l, r.lock.id) {
-        return cut_tree(s, l, r);
+    if is_left(s, locks, r.lock.id) {
+        return cut_tree(s, locks, r);
     }
     s
 }
@@ -141,76 +141,60 @@ fn all_places(n: usize) -> Places
 
 // The locks at the first n of these places.
 fn gathered(
-    l: [ActiveLock; LockState::ACTIVE],
+    locks: [ActiveLock; LockState::ACTIVE],
     places: [usize; LockState::ACTIVE],
     n: usize,
 ) -> [ActiveLock; LockState::ACTIVE]
     requires { ⌜ (n ≤ 64) × Low (take n places) ⌝ }
-    ensures { λ x. ⌜ x ≡ inPlaces 64 blankActive (map (lockAt l) (take n places)) ⌝ }
+    ensures { λ x. ⌜ x ≡ inPlaces 64 blankActive (map (lockAt locks) (take n places)) ⌝ }
 {
     let b = state::blank_active();
     let mut out = [b; LockState::ACTIVE];
     let mut i: usize = 0;
     while i < n {
         let j = places[i];
-        out[i] = l[j];
+        out[i] = locks[j];
         i += 1;
     }
     out
 }
 
-fn moved(s: Places, l: [ActiveLock; LockState::ACTIVE]) -> Split
+fn moved(s: Places, locks: [ActiveLock; LockState::ACTIVE]) -> Split
     requires { ⌜ Sorting s ⌝ }
-    ensures { λ x. ⌜ x ≡ splitOf (partsIn l (halvesOf s)) ⌝ }
+    ensures { λ x. ⌜ x ≡ splitOf (partsIn locks (halvesOf s)) ⌝ }
 {
-    let k = s.kept;
-    let w = s.went;
+    let kept = s.kept;
+    let went = s.went;
     Split {
         left: s.left,
-        kept: gathered(l, k, s.left),
+        kept: gathered(locks, kept, s.left),
         gone: s.gone,
-        removed: gathered(l, w, s.gone),
+        removed: gathered(locks, went, s.gone),
     }
 }
 
 // The first n locks without the tree of r.
-pub(crate) fn tree_out(l: [ActiveLock; LockState::ACTIVE], n: usize, r: ActiveLock) -> Split
-    requires { ⌜ Placed l n ⌝ }
-    ensures { λ x. ⌜ x ≡ splitOf (treeParts r (startParts (take n l))) ⌝ }
+pub(crate) fn tree_out(locks: [ActiveLock; LockState::ACTIVE], n: usize, r: ActiveLock) -> Split
+    requires { ⌜ Placed locks n ⌝ }
+    ensures { λ x. ⌜ x ≡ splitOf (treeParts r (startParts (take n locks))) ⌝ }
 {
-    let s = cut_tree(all_places(n), l, r);
-    moved(s, l)
+    let s = cut_tree(all_places(n), locks, r);
+    moved(s, locks)
 }
 
 // The first n locks without the trees of the listed roots, ascending, each from what then remains.
-pub(crate) fn roots_out(l: [ActiveLock; LockState::ACTIVE], n: usize, list: &[u64]) -> Split
-    requires { ⌜ Placed l n ⌝ }
-    ensures { λ x. ⌜ x ≡ splitOf (rootsParts (now (list .entry)) (take n l)) ⌝ }
+pub(crate) fn roots_out(locks: [ActiveLock; LockState::ACTIVE], n: usize, list: &[u64]) -> Split
+    requires { ⌜ Placed locks n ⌝ }
+    ensures { λ x. ⌜ x ≡ splitOf (rootsParts (now (list .entry)) (take n locks)) ⌝ }
 {
     let mut out = all_places(n);
     let mut at: usize = 0;
     while at < n {
-        let r = l[at];
+        let r = locks[at];
         at += 1;
         if ids::listed(list, r.lock.id) {
-            out = root_out(out, l, r);
+            out = root_out(out, locks, r);
         }
     }
-    moved(out, l)
-}
-
-// Whether one of the first n locks has the id.
-pub(crate) fn id_active(l: [ActiveLock; LockState::ACTIVE], n: usize, id: LockId) -> bool
-    requires { ⌜ n ≤ 64 ⌝ }
-    ensures { λ r. ⌜ r ≡ any (hasId id) (take n l) ⌝ }
-{
-    let mut i: usize = 0;
-    while i < n {
-        let a = l[i];
-        i += 1;
-        if state::has_id(id, a) {
-            return true;
-        }
-    }
-    false
+    moved(out, locks)
 }

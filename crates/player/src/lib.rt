@@ -1,5 +1,6 @@
 // A feed played to a spare, with a line printed for each record.
 // SPDX-License-Identifier: Apache-2.0
+use feed::events;
 use feed::events::Step;
 use feed::numbers;
 use image::Spare;
@@ -8,9 +9,14 @@ ghost use mathlib.Core.Path.{_≡_};
 ghost use lib.ListN.{length};
 ghost use Rattle.feed.specs.Runs.{runOn};
 
+const LINE: usize = 128;
+
+// The decimal digits of the greatest number.
+const DIGITS: usize = 20;
+
 // A line that is being put together, so that it is written at once.
 struct Line {
-    bytes: [u8; 128],
+    bytes: [u8; LINE],
     count: usize,
 }
 
@@ -20,7 +26,7 @@ fn put(line: Line, s: &[u8]) -> Line {
     let mut at = line.count;
     let mut i = 0;
     while i < s.len() {
-        if 128 <= at {
+        if LINE <= at {
             return line;
         }
         bytes[at] = s[i];
@@ -32,7 +38,7 @@ fn put(line: Line, s: &[u8]) -> Line {
 
 // The number in decimal digits, and what stands after it.
 fn number(line: Line, n: u64, after: &[u8]) -> Line {
-    let mut digits = [0u8; 20];
+    let mut digits = [0u8; DIGITS];
     let k = io::decimal(n, &mut digits);
     put(put(line, &digits[..k]), after)
 }
@@ -51,7 +57,7 @@ fn finish(line: Line) {
 
 fn blank() -> Line {
     Line {
-        bytes: [0; 128],
+        bytes: [0; LINE],
         count: 0,
     }
 }
@@ -77,7 +83,7 @@ fn print_bad(s: Step, at: usize) {
     finish(number(b, at as u64, b"\n"));
 }
 
-// The spare after the feed's last whole record. A step that reads nothing keeps its place, and ends the play.
+// The spare after the feed's last whole record. A step that reads nothing ends the play.
 pub fn play(start: Spare, feed: &[u8]) -> Spare
     ensures { λ r. ⌜ r ≡ runOn (length (now (feed .entry))) start (now (feed .entry)) 0 ⌝ }
 {
@@ -86,14 +92,14 @@ pub fn play(start: Spare, feed: &[u8]) -> Spare
     while at < feed.len() {
         let s = feed::step(spare, feed, at);
         let told = s.told;
-        let next = told.next;
-        if next <= at {
+        let event = told.event;
+        if events::stops(event) {
             print_bad(s, at);
             return spare;
         }
         print_line(s);
         spare = s.spare;
-        at = next;
+        at = told.next;
     }
     spare
 }

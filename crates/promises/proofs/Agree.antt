@@ -34,7 +34,7 @@ use Rattle.operations.specs.Checks.{atLast}
 use Rattle.operations.specs.Insert.{judgeInsert}
 use Rattle.operations.specs.Vehicle.{judgeVehicle}
 use Rattle.operations.specs.Renew.{renewedIn, judgeRenew, closedRenew, settledRenew, renewOn}
-use Rattle.operations.specs.Delete.{withoutTree, closedDelete, deleteFound, deleteOn, closedExpire, expireFound, beginExpirationOn}
+use Rattle.operations.specs.Delete.{withoutTree, closedDelete, deleteFound, deleteOn, expireFound, beginExpirationOn}
 use Rattle.operations.specs.Replace.{judgeReplace}
 use Rattle.operations.specs.Acknowledge.{acknowledgedTo, acknowledgeOn, lapsed, shedTo, expireDefunctOn}
 use Rattle.promises.specs.Steps.{Op, insertActive, insertVehicle, renew, delete, beginExpiration, commitReplacement, acknowledge, expireDefunct, afterRenewal, afterDelete, afterExpiration, step, stepOn}
@@ -71,13 +71,13 @@ module _ (s : LockState) (t : s ≡ stateOf (modelOf s)) (e : brokenRule s ≡ S
       choose (λ (r : Deleted). r .state) (atLast (s .revision)) _ _ (modelOf s) (withoutTree (modelOf s) r) t
       (closes (λ (x : Deleted). x .state ≡ stateOf (withoutTree (modelOf s) r)) (withoutTree (modelOf s) r) _ _ (delete-keeps full (modelOf s) r (sound-of s e)) (λ u. refl))
 
-  expiration-agrees : (now : ℕ) (o : Option ActiveLock) → expireFound s now o .state ≡ stateOf (afterExpiration now (modelOf s) o)
-  unfolding expireFound closedExpire
-  expiration-agrees now none = t
-  expiration-agrees now (some r) =
+  -- as a deletion's
+  expiration-agrees : (i : LockId) (now : ℕ) (o : Option ActiveLock) → find (hasId i) (modelOf s .active) ≡ o → expireFound s i now o .state ≡ stateOf (afterExpiration now (modelOf s) o)
+  unfolding expireFound deleteOn
+  expiration-agrees i now none f = t
+  expiration-agrees i now (some r) f =
       choose (λ (r : Expired). r .state) (ltb now (r .expires)) _ _ (modelOf s) _ t
-      (choose (λ (r : Expired). r .state) (atLast (s .revision)) _ _ (modelOf s) (withoutTree (modelOf s) r) t
-      (closes (λ (x : Expired). x .state ≡ stateOf (withoutTree (modelOf s) r)) (withoutTree (modelOf s) r) _ _ (delete-keeps full (modelOf s) r (sound-of s e)) (λ u. refl)))
+      (ap (λ (r : Deleted). r .state) (sym (on-sound s _ _ (brokenRule s) refl e)) ∙ delete-agrees i (find (hasId i) (modelOf s .active)) ∙ ap (λ (o : Option ActiveLock). stateOf (afterDelete (modelOf s) o)) f)
 
   step-agrees : (o : Op) → stepOn s o ≡ stateOf (step full (modelOf s) o)
   unfolding stepOn step renewOn deleteOn beginExpirationOn acknowledgeOn acknowledgedTo expireDefunctOn
@@ -88,7 +88,7 @@ module _ (s : LockState) (t : s ≡ stateOf (modelOf s)) (e : brokenRule s ≡ S
   step-agrees (renew i f now has d) =
       ap (λ (r : Renewed). r .state) (sym (on-sound s _ _ (brokenRule s) refl e)) ∙ renew-agrees (judgeRenew (modelOf s) i f now) (renewedIn (modelOf s) i f has d) (renew-keeps (modelOf s) i f has d full (sound-of s e))
   step-agrees (delete i) = ap (λ (r : Deleted). r .state) (sym (on-sound s _ _ (brokenRule s) refl e)) ∙ delete-agrees i (find (hasId i) (modelOf s .active))
-  step-agrees (beginExpiration i now) = ap (λ (r : Expired). r .state) (sym (on-sound s _ _ (brokenRule s) refl e)) ∙ expiration-agrees now (find (hasId i) (modelOf s .active))
+  step-agrees (beginExpiration i now) = ap (λ (r : Expired). r .state) (sym (on-sound s _ _ (brokenRule s) refl e)) ∙ expiration-agrees i now (find (hasId i) (modelOf s .active)) refl
   step-agrees (commitReplacement ws y by at) =
       ap (λ (r : Replaced). r .state) (replace-exactly s ws y by at e) ∙ choose (λ (r : Replaced). r .state) (isDone (judgeReplace full (modelOf s) ws (normal y) by at)) _ _ _ (modelOf s) refl t
   step-agrees (acknowledge i) =

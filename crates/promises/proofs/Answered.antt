@@ -3,7 +3,7 @@
 -- Assumes nothing.
 use mathlib.Core.Path.{_≡_, refl, ap, _∙_}
 use mathlib.Core.Bool.{Bool, true, false, cond}
-use mathlib.Core.List.{List}
+use mathlib.Core.List.{List, [], _∷_}
 use mathlib.Core.Option.{Option, none, some}
 use Prim.Native.Nat.{ℕ}
 use lib.Dec.{eqb}
@@ -11,16 +11,18 @@ use Rattle.lists.specs.Tests.{Yes, No}
 use Rattle.lists.specs.Lists.{find, filter}
 use Rattle.lists.proofs.Tests.{against, cond-both}
 use Rattle.ids.specs.declared.LockId.{LockId}
-use Rattle.ids.specs.Words.{lowestOf, idsOf}
+use Rattle.ids.specs.Words.{ascendingIds}
 use Rattle.state.specs.declared.ActiveLock.{ActiveLock}
 use Rattle.state.specs.declared.DefunctLock.{DefunctLock}
 use Rattle.state.specs.Locks.{hasId}
 use Rattle.state.specs.Model.{Model, Limits}
 use Rattle.operations.specs.declared.answers.Answer.{Answer}
 use Rattle.operations.specs.declared.answers.Answer.the-variants.{Done, DuplicateId, DuplicateScope, ActiveLockNotFound, ParentNotFound, ParentNotVehicle, ReplacementScopeConflict, CoverageConflict, RevisionOverflow, NotRootVehicle, BadChild, OtherOwner, NotCovered, Invariant, UnsoundState, NoRoom, BadList}
-use Rattle.operations.specs.Answers.{isDone, refuseIf, andThen}
+use Rattle.operations.specs.Answers.{isDone, refuseIf, andThen, firstRefusal}
 use Rattle.operations.specs.Trees.{isListed}
-use Rattle.operations.specs.Checks.{checkList, checkId, checkScope, checkParent, checkFound, checkNesting, conflicts, checkConflict, checkClear, checkInsert, checkRevision, checkRoom, checkRoot, missing, unfitId, toldListed, checkListed, unfitChild, toldChild, checkChildren, toldRoot, checkRoots, checkHolder, checkEntry}
+use Rattle.operations.specs.Checks.{checkList, checkId, checkScope, conflicts, checkConflict, checkClear, checkRevision, checkRoom, checkRoot, checkActive, checkFree, checkListed, checkOwner, checkCover, checkChild, checkHolder}
+use Rattle.operations.specs.Code.{checkParent, checkFound, checkNesting, checkInsert, checkEntry, judgeBundled}
+use Rattle.operations.proofs.Bundles.{judge-insert, judge-replace}
 use Rattle.operations.specs.Insert.{insertedIn, judgeInsert}
 use Rattle.operations.specs.Vehicle.{vehicleIn, judgeVehicle}
 use Rattle.operations.specs.Replace.{orphan, cutOf, replacedIn, judgeReplace}
@@ -85,29 +87,25 @@ module _ (odd : Bool) where
   unfolding checkInsert checkScope
   insert-not l x = then-not _ _ (refuse-not _ _ _ refl refl) (then-not _ _ (nesting-not l x) (clear-not l x))
 
-  listed-not : (l : List ActiveLock) (ws : List ℕ) → No (foreignIf odd (checkListed l ws))
-  unfolding checkListed
-  listed-not l ws = go (lowestOf none (filter (unfitId l) (idsOf ws)))
-    where
-      go : (o : Option LockId) → No (foreignIf odd (toldListed l o))
-      go none = refl
-      go (some i) = if-not (missing l i) _ _ refl refl
+  first-not : {A : Type 0} (c : A → Answer) → ((a : A) → No (foreignIf odd (c a))) → (l : List A) → No (foreignIf odd (firstRefusal c l))
+  first-not c f [] = refl
+  first-not c f (a ∷ l) = then-not _ _ (f a) (first-not c f l)
 
-  children-not : (p : ActiveLock → Bool) (l : List ActiveLock) (x : ActiveLock) → No (foreignIf odd (checkChildren p l x))
-  unfolding checkChildren
-  children-not p l x = go (find (unfitChild p x) l)
-    where
-      go : (o : Option ActiveLock) → No (foreignIf odd (toldChild x o))
-      go none = refl
-      go (some a) = if-not (eqb (x .lock .subject) (a .lock .subject)) _ _ refl refl
+  active-not : (l : List ActiveLock) (i : LockId) → No (foreignIf odd (checkActive l i))
+  unfolding checkActive
+  active-not l i = refuse-not _ _ _ refl refl
+
+  listed-not : (l : List ActiveLock) (i : LockId) → No (foreignIf odd (checkListed l i))
+  unfolding checkListed checkFree
+  listed-not l i = then-not _ _ (active-not l i) (refuse-not _ _ _ refl refl)
+
+  child-not : (x a : ActiveLock) → No (foreignIf odd (checkChild x a))
+  unfolding checkChild checkOwner checkCover
+  child-not x a = then-not _ _ (refuse-not _ _ _ refl refl) (refuse-not _ _ _ refl refl)
 
   entry-not : (l : List ActiveLock) (t : List DefunctLock) (ws : List ℕ) (x : ActiveLock) → No (foreignIf odd (checkEntry l t ws x))
-  unfolding checkEntry checkRoots checkId checkHolder
-  entry-not l t ws x = then-not _ _ (go (lowestOf none (filter (missing l) (idsOf ws)))) (then-not _ _ (refuse-not _ _ _ refl refl) (refuse-not _ _ _ refl refl))
-    where
-      go : (o : Option LockId) → No (foreignIf odd (toldRoot o))
-      go none = refl
-      go (some i) = refl
+  unfolding checkEntry checkId checkHolder
+  entry-not l t ws x = then-not _ _ (first-not (checkActive l) (active-not l) (ascendingIds ws)) (then-not _ _ (refuse-not _ _ _ refl refl) (refuse-not _ _ _ refl refl))
 
 -- ---- chains
 then-assoc : (a b c : Answer) → andThen a (andThen b c) ≡ andThen (andThen a b) c
@@ -124,26 +122,25 @@ beforeInsert m x = andThen (andThen (checkId (m .active) (m .defunct) x) (checkI
 
 abbrev pub beforeVehicle : Model → ActiveLock → List ℕ → Answer
 beforeVehicle m x ws =
-    andThen (andThen (andThen (andThen (andThen (andThen (checkList ws) (checkRoot x)) (checkListed (m .active) ws)) (checkId (m .active) (m .defunct) x)) (checkScope (m .active) x)) (checkRevision (m .revision)))
-    (checkChildren (isListed ws) (m .active) x)
+    andThen (andThen (andThen (andThen (andThen (andThen (checkList ws) (checkRoot x)) (firstRefusal (checkListed (m .active)) (ascendingIds ws))) (checkId (m .active) (m .defunct) x)) (checkScope (m .active) x)) (checkRevision (m .revision)))
+    (firstRefusal (checkChild x) (filter (isListed ws) (m .active)))
 
 abbrev pub beforeReplace : Model → List ℕ → ActiveLock → Answer
 beforeReplace m ws x =
     andThen (andThen (andThen (andThen (checkList ws) (checkEntry (m .active) (m .defunct) ws x)) (checkInsert (cutOf m ws .kept) x)) (checkRevision (m .revision)))
-    (checkChildren (orphan x) (cutOf m ws .kept) x)
+    (firstRefusal (checkChild x) (filter (orphan x) (cutOf m ws .kept)))
 
 module _ (m : Model) where
   pub insert-parts : (k : Limits) (x : ActiveLock) → judgeInsert k m x ≡ andThen (beforeInsert m x) (checkRoom k (insertedIn m x))
-  unfolding judgeInsert
-  insert-parts k x = simp then-assoc
+  unfolding judgeBundled
+  insert-parts k x = judge-insert k m x ∙ simp then-assoc
 
   pub vehicle-parts : (k : Limits) (x : ActiveLock) (ws : List ℕ) → judgeVehicle k m x ws ≡ andThen (beforeVehicle m x ws) (checkRoom k (vehicleIn m x ws))
   unfolding judgeVehicle
   vehicle-parts k x ws = simp then-assoc
 
   pub replace-parts : (k : Limits) (ws : List ℕ) (x : ActiveLock) (by at : ℕ) → judgeReplace k m ws x by at ≡ andThen (beforeReplace m ws x) (checkRoom k (replacedIn m ws x by at))
-  unfolding judgeReplace
-  replace-parts k ws x by at = simp then-assoc
+  replace-parts k ws x by at = judge-replace k m ws x by at ∙ simp then-assoc
 
   module _ (odd : Bool) where
     id-not : (x : ActiveLock) → No (foreignIf odd (checkId (m .active) (m .defunct) x))
@@ -160,13 +157,13 @@ module _ (m : Model) where
     pub vehicle-own-if : (x : ActiveLock) (ws : List ℕ) → No (foreignIf odd (checkList ws)) → No (foreignIf odd (beforeVehicle m x ws))
     unfolding checkRoot checkScope
     vehicle-own-if x ws h =
-        then-not odd _ _ (then-not odd _ _ (then-not odd _ _ (then-not odd _ _ (then-not odd _ _ (then-not odd _ _ h (refuse-not odd _ _ _ refl refl)) (listed-not odd (m .active) ws)) (id-not x)) (refuse-not odd _ _ _ refl refl)) revision-not)
-        (children-not odd (isListed ws) (m .active) x)
+        then-not odd _ _ (then-not odd _ _ (then-not odd _ _ (then-not odd _ _ (then-not odd _ _ (then-not odd _ _ h (refuse-not odd _ _ _ refl refl)) (first-not odd (checkListed (m .active)) (listed-not odd (m .active)) (ascendingIds ws))) (id-not x)) (refuse-not odd _ _ _ refl refl)) revision-not)
+        (first-not odd (checkChild x) (child-not odd x) (filter (isListed ws) (m .active)))
 
     pub replace-own-if : (ws : List ℕ) (x : ActiveLock) → No (foreignIf odd (checkList ws)) → No (foreignIf odd (beforeReplace m ws x))
     replace-own-if ws x h =
         then-not odd _ _ (then-not odd _ _ (then-not odd _ _ (then-not odd _ _ h (entry-not odd (m .active) (m .defunct) ws x)) (insert-not odd (cutOf m ws .kept) x)) revision-not)
-        (children-not odd (orphan x) (cutOf m ws .kept) x)
+        (first-not odd (checkChild x) (child-not odd x) (filter (orphan x) (cutOf m ws .kept)))
 
   list-not : (ws : List ℕ) → No (foreign (checkList ws))
   unfolding checkList

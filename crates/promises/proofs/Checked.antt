@@ -1,9 +1,9 @@
 -- What each check says once it has passed.
 -- Assumes nothing.
-use mathlib.Core.Path.{_≡_, refl, sym, _∙_}
+use mathlib.Core.Path.{_≡_, refl, sym, ap, _∙_}
 use mathlib.Core.Bool.{Bool, true, false, false≢true}
-use mathlib.Core.List.{List, [], _∷_, List·Memᴰ·not-nil}
-use mathlib.Core.Option.{Option, none, some, Option·some-ne-none}
+use mathlib.Core.List.{List, [], _∷_, List·Memᴰ·head, List·Memᴰ·tail}
+use mathlib.Core.Option.{Option, none, some}
 use mathlib.Core.Logic.{inl, inr}
 use Prim.Native.Nat.{ℕ}
 use lib.Dec.{eqb}
@@ -13,8 +13,8 @@ use Rattle.lists.specs.Lists.{find, filter, Mem}
 use Rattle.lists.proofs.Tests.{against, →no, and-i, or-no, and-no, cond-true, cond-both}
 use Rattle.lists.proofs.Lists.{any→, →any, →filter, find→, find-none→, find-cases}
 use Rattle.ids.specs.declared.LockId.{LockId}
-use Rattle.ids.specs.Order.{sameId, beforeId}
-use Rattle.ids.specs.Words.{idsOf, listedIn, lowestOf}
+use Rattle.ids.specs.Order.{key, sameId, beforeId}
+use Rattle.ids.specs.Words.{idsOf, listedIn, insertId, insertIds, ascendingIds}
 use Rattle.coverage.specs.Coverage.{within}
 use Rattle.state.specs.declared.ActiveLock.{ActiveLock}
 use Rattle.state.specs.declared.DefunctLock.{DefunctLock}
@@ -23,10 +23,12 @@ use Rattle.state.specs.Model.{Model, Limits, fits}
 use Rattle.lookups.specs.Reads.{onScope}
 use Rattle.operations.specs.declared.answers.Answer.{Answer}
 use Rattle.operations.specs.declared.answers.Answer.the-variants.{Done}
-use Rattle.operations.specs.Answers.{isDone}
+use Rattle.operations.specs.Answers.{isDone, firstRefusal}
 use Rattle.operations.specs.Trees.{isListed}
-use Rattle.operations.specs.Checks.{checkId, checkScope, checkParent, checkFound, checkNesting, conflicts, checkClear, checkRoom, checkRoot, missing, settledLock, unfitId, toldListed, checkListed, unfitChild, toldChild, checkChildren}
-use Rattle.promises.proofs.Passed.{went-on}
+use Rattle.operations.specs.Checks.{checkId, checkScope, conflicts, checkClear, checkRoom, checkRoot, missing, checkActive, settledLock, checkFree, checkListed, checkOwner, checkCover, checkChild}
+use Rattle.operations.specs.Code.{checkParent, checkFound, checkNesting}
+use Rattle.operations.proofs.Refusing.{listed-same}
+use Rattle.promises.proofs.Passed.{then-done, went-on}
 use Rattle.promises.proofs.Core.{Parent}
 
 pub non-no : (b : Bool) → No (non b) → Yes b
@@ -76,55 +78,68 @@ pub root-ok : (x : ActiveLock) → Yes (isDone (checkRoot x)) → Yes (isVehicle
 unfolding checkRoot isDone
 root-ok x e = let h = or-no _ _ (went-on _ _ _ refl e .0) in (non-no _ (h .0), h .1)
 
+-- ---- where nothing of a list is refused, each passes
+all-passed : {A : Type 0} (c : A → Answer) (l : List A) → Yes (isDone (firstRefusal c l)) → {a : A} → Mem a l → Yes (isDone (c a))
+all-passed c (x ∷ l) e (List·Memᴰ·head q) = rw q (then-done _ _ e .0)
+all-passed c (x ∷ l) e (List·Memᴰ·tail m) = all-passed c l (then-done _ _ e .1) m
+
 -- ---- 11.3, 11.4 of the children
-pub children-ok : (p : ActiveLock → Bool) (l : List ActiveLock) (x : ActiveLock) → Yes (isDone (checkChildren p l x))
+pub children-ok : (p : ActiveLock → Bool) (l : List ActiveLock) (x : ActiveLock) → Yes (isDone (firstRefusal (checkChild x) (filter p l)))
     → (a : ActiveLock) → Mem a l → Yes (p a) → (x .lock .subject ≡ a .lock .subject) × Yes (within (a .lock .coverage) (x .lock .coverage))
-unfolding checkChildren unfitChild isDone
+unfolding checkChild checkOwner checkCover isDone
 children-ok p l x e a u t =
-    elim (find-cases (unfitChild p x) l) [
-      | inl w ↦ absurd (told (w .0) (rw (w .1) at e))
-      | inr n ↦
-          let h = →no (unfitChild p x a) (find-none→ (unfitChild p x) l n u) in
-          let q = or-no _ _ (and-no _ _ h t) in
-          (eqb-true _ _ (non-no _ (q .0)), non-no _ (q .1))
-    ]
-  where
-    told : (a : ActiveLock) → Yes (isDone (toldChild x (some a))) → ⊥
-    told a = cond-both (λ (r : Answer). Yes (isDone r) → ⊥) _ _ (eqb (x .lock .subject) (a .lock .subject)) (λ t. false≢true) (λ t. false≢true)
+    let h = then-done _ _ (all-passed (checkChild x) (filter p l) e (→filter p l u t)) in
+    (eqb-true _ _ (non-no _ (went-on _ _ _ refl (h .0) .0)), non-no _ (went-on _ _ _ refl (h .1) .0))
 
 -- ---- 3, 11.2 of the listed
--- a list with an id has a lowest one
-lowest-some : (b : LockId) (is : List LockId) → lowestOf (some b) is ≡ none → ⊥
-lowest-some b [] e = Option·some-ne-none b e
-lowest-some b (i ∷ is) e = cond-both (λ (o : Option LockId). lowestOf o is ≡ none → ⊥) (some i) (some b) (beforeId i b) (λ t. lowest-some i is) (λ t. lowest-some b is) e
+-- each listed id is among those in order, as itself or as one with the same key
+abbrev Kin : LockId → List LockId → Type 0
+Kin i l = (z : LockId) × Mem z l × (key z ≡ key i)
 
-pub lowest-none : (is : List LockId) → lowestOf none is ≡ none → is ≡ []
-lowest-none [] e = refl
-lowest-none (i ∷ is) e = absurd (lowest-some i is e)
+put-new : (i : LockId) (js : List LockId) → Kin i (insertId i js)
+unfolding sameId
+put-new i [] = (i, List·Memᴰ·head refl, refl)
+put-new i (j ∷ js) =
+    cond-both (Kin i) (i ∷ (j ∷ js)) _ (beforeId i j) (λ t. (i, List·Memᴰ·head refl, refl)) (λ t.
+    cond-both (Kin i) (j ∷ js) (j ∷ insertId i js) (eqb (key i) (key j)) (λ s. (j, List·Memᴰ·head refl, sym (eqb-true (key i) (key j) s))) (λ s. let w = put-new i js in (w .0, List·Memᴰ·tail (w .1), w .2)))
 
-told-none : (l : List ActiveLock) (o : Option LockId) → Yes (isDone (toldListed l o)) → o ≡ none
-unfolding isDone
-told-none l none e = refl
-told-none l (some i) e = absurd (cond-both (λ (r : Answer). Yes (isDone r) → ⊥) _ _ (missing l i) (λ t. false≢true) (λ t. false≢true) e)
+put-old : (i : LockId) {z : LockId} (js : List LockId) → Mem z js → Mem z (insertId i js)
+put-old i {z} (j ∷ js) (List·Memᴰ·head q) =
+    cond-both (Mem z) (i ∷ (j ∷ js)) _ (beforeId i j) (λ t. List·Memᴰ·tail (List·Memᴰ·head q)) (λ t. cond-both (Mem z) (j ∷ js) (j ∷ insertId i js) (sameId i j) (λ s. List·Memᴰ·head q) (λ s. List·Memᴰ·head q))
+put-old i {z} (j ∷ js) (List·Memᴰ·tail m) =
+    cond-both (Mem z) (i ∷ (j ∷ js)) _ (beforeId i j) (λ t. List·Memᴰ·tail (List·Memᴰ·tail m)) (λ t. cond-both (Mem z) (j ∷ js) (j ∷ insertId i js) (sameId i j) (λ s. List·Memᴰ·tail m) (λ s. List·Memᴰ·tail (put-old i js m)))
 
-listed-fit : (l : List ActiveLock) (ws : List ℕ) → Yes (isDone (checkListed l ws)) → (i : LockId) → Mem i (idsOf ws) → No (unfitId l i)
-unfolding checkListed
-listed-fit l ws e i u = →no (unfitId l i) (λ t.
-    let q = lowest-none (filter (unfitId l) (idsOf ws)) (told-none l _ e) in
-    List·Memᴰ·not-nil (rw q at (→filter (unfitId l) (idsOf ws) u t)))
+all-old : (is js : List LockId) {z : LockId} → Mem z js → Mem z (insertIds is js)
+all-old [] js m = m
+all-old (i ∷ is) js m = all-old is (insertId i js) (put-old i js m)
+
+all-new : {i : LockId} (is js : List LockId) → Mem i is → Kin i (insertIds is js)
+all-new (x ∷ is) js (List·Memᴰ·head q) = let w = put-new x js in (w .0, all-old is (insertId x js) (w .1), w .2 ∙ ap key (sym q))
+all-new (x ∷ is) js (List·Memᴰ·tail m) = all-new is (insertId x js) m
+
+non-one : (a b : Bool) → non a ≡ non b → Yes a → Yes b
+unfolding non
+non-one true true e t = refl
+non-one true false e t = absurd (false≢true e)
+non-one false b e t = absurd (false≢true t)
+
+listed-fit : (l : List ActiveLock) (ws : List ℕ) → Yes (isDone (firstRefusal (checkListed l) (ascendingIds ws))) → (i : LockId) → Mem i (idsOf ws) → Yes (isDone (checkListed l i))
+listed-fit l ws e i u =
+    let w = all-new (idsOf ws) [] u in
+    non-one (isDone (checkListed l (w .0))) (isDone (checkListed l i)) (listed-same l (w .0) i (w .2)) (all-passed (checkListed l) (ascendingIds ws) e (w .1))
 
 -- a listed lock is no vehicle lock
-pub listed-low : (l : List ActiveLock) (ws : List ℕ) → Yes (isDone (checkListed l ws)) → (a : ActiveLock) → Mem a l → Yes (isListed ws a) → No (isVehicle (a .lock .scope))
-unfolding listedIn sameId unfitId settledLock hasId
+pub listed-low : (l : List ActiveLock) (ws : List ℕ) → Yes (isDone (firstRefusal (checkListed l) (ascendingIds ws))) → (a : ActiveLock) → Mem a l → Yes (isListed ws a) → No (isVehicle (a .lock .scope))
+unfolding listedIn sameId checkListed checkFree settledLock hasId isDone
 listed-low l ws e a u t =
     let w = any→ (sameId (a .lock .id)) (idsOf ws) t in
-    let h = or-no _ _ (listed-fit l ws e (w .0) (w .1)) .1 in
+    let h = went-on _ _ _ refl (then-done _ _ (listed-fit l ws e (w .0) (w .1)) .1) .0 in
     or-no _ _ (→no (settledLock a) (λ v. against h (→any (λ a. hasId (w .0) a and settledLock a) u (and-i _ _ (w .2) v)))) .0
 
 -- a lock that is not active is not listed
-pub listed-old : (l : List ActiveLock) (ws : List ℕ) → Yes (isDone (checkListed l ws)) → (x : ActiveLock) → ((a : ActiveLock) → Mem a l → akey a ≡ akey x → ⊥) → No (isListed ws x)
-unfolding listedIn sameId unfitId missing hasId
+pub listed-old : (l : List ActiveLock) (ws : List ℕ) → Yes (isDone (firstRefusal (checkListed l) (ascendingIds ws))) → (x : ActiveLock) → ((a : ActiveLock) → Mem a l → akey a ≡ akey x → ⊥) → No (isListed ws x)
+unfolding listedIn sameId checkListed checkActive missing hasId isDone
 listed-old l ws e x new = →no (isListed ws x) (λ t.
     let w = any→ (sameId (x .lock .id)) (idsOf ws) t in
-    let h = any→ (hasId (w .0)) l (non-no _ (or-no _ _ (listed-fit l ws e (w .0) (w .1)) .0)) in
+    let h = any→ (hasId (w .0)) l (non-no _ (went-on _ _ _ refl (then-done _ _ (listed-fit l ws e (w .0) (w .1)) .0) .0)) in
     new (h .0) (h .1) (eqb-true _ _ (h .2) ∙ sym (eqb-true _ _ (w .2))))

@@ -41,13 +41,13 @@ use Rattle.operations.specs.declared.answers.Expired.{Expired}
 use Rattle.operations.specs.declared.answers.Acknowledged.{Acknowledged}
 use Rattle.operations.specs.declared.answers.DefunctsExpired.{DefunctsExpired}
 use Rattle.operations.specs.Answers.{isDone, paperOf, refuseIf, andThen, renewalPaper, deletionPaper, expirationPaper, acknowledgementPaper, expiryPaper}
-use Rattle.operations.specs.Table.{removeD, removeAll}
+use Rattle.operations.specs.Defuncts.{removeD, removeAll}
 use Rattle.operations.specs.Checks.{atLast, checkRoom}
-use Rattle.operations.specs.Insert.{insertedIn, judgeInsert, inserted, closedInsert, settledInsert, insertActiveOn}
-use Rattle.operations.specs.Vehicle.{vehicleIn, judgeVehicle, insertVehicleOn}
+use Rattle.operations.specs.Insert.{insertedIn, judgeInsert, inserted, closedInsert, settledInsert, insertActiveWith, insertActiveOn}
+use Rattle.operations.specs.Vehicle.{vehicleIn, judgeVehicle, insertVehicleWith, insertVehicleOn}
 use Rattle.operations.specs.Renew.{renewedIn, judgeFound, judgeRenew, renewed, closedRenew, settledRenew, renewOn}
-use Rattle.operations.specs.Delete.{treeOut, withoutTree, deleted, closedDelete, deleteFound, deleteOn, expired, closedExpire, expireFound, beginExpirationOn}
-use Rattle.operations.specs.Replace.{cutOf, replacedIn, judgeReplace, replaced, closedReplace, settledReplace, commitReplacementOn}
+use Rattle.operations.specs.Delete.{treeOut, withoutTree, deleted, closedDelete, deleteFound, deleteOn, expired, asExpiration, asExpired, expireFound, beginExpirationOn}
+use Rattle.operations.specs.Replace.{cutOf, replacedIn, judgeReplace, replaced, closedReplace, settledReplace, commitReplacementWith, commitReplacementOn}
 use Rattle.operations.specs.Acknowledge.{shedIn, acknowledged, toldAcknowledge, acknowledgedTo, acknowledgeOn, lapsed, lapsedOf, idsOfEntries, shed, shedTo, expireDefunctOn}
 use Rattle.promises.proofs.Passed.{is-done}
 use Rattle.promises.proofs.Keeps.{insert-keeps, vehicle-keeps, renew-keeps, delete-keeps, replace-keeps, acknowledge-keeps, expire-keeps}
@@ -78,37 +78,59 @@ judge-not k a n f =
 -- ---- what each operation comes to: a refusal other than Invariant that leaves the state, or, from a sound state, the done
 -- result, whose state is sound
 -- an insertion's or a replacement's judgement is followed by exactly the done result or the refusal
-settled : {A : Type 0} (s : LockState) (a : Answer) (m : Model) (d e r : A) → (a ≡ Done → Yes (sound full m))
-    → cond (isDone a) (cond (isSound (brokenRule (stateOf m))) d e) r ≡ cond (isDone a) d r
-settled {A} s a m d e r keep = go (isDone a) refl
+settled : {A : Type 0} (k : Limits) (a : Answer) (m : Model) (d e r : A) → (a ≡ Done → Yes (sound k m))
+    → cond (isDone a) (cond (sound k m) d e) r ≡ cond (isDone a) d r
+settled {A} k a m d e r keep = go (isDone a) refl
   where
-    go : (b : Bool) → isDone a ≡ b → cond b (cond (isSound (brokenRule (stateOf m))) d e) r ≡ cond b d r
-    go true q = closes (λ (x : A). x ≡ d) m d e (keep (is-done a q)) (λ g. refl)
+    go : (b : Bool) → isDone a ≡ b → cond b (cond (sound k m) d e) r ≡ cond b d r
+    go true q = cond-true (sound k m) d e (keep (is-done a q))
     go false q = refl
 
+-- under any limits that hold the state
+module _ (k : Limits) (s : LockState) (e : brokenRule s ≡ Sound) (t : Yes (sound k (modelOf s))) where
+  pub insert-with : (y : ActiveLock)
+      → insertActiveWith k s y
+      ≡ cond (isDone (judgeInsert k (modelOf s) (normal y))) (inserted Done (stateOf (insertedIn (modelOf s) (normal y)))) (inserted (judgeInsert k (modelOf s) (normal y)) s)
+  unfolding insertActiveWith settledInsert closedInsert
+  insert-with y = sym (on-sound s _ _ (brokenRule s) refl e) ∙ settled k _ _ _ _ _ (insert-keeps k (modelOf s) (normal y) (normal-neat y) t)
+
+  pub vehicle-with : (y : ActiveLock) (ws : List ℕ)
+      → insertVehicleWith k s y ws
+      ≡ cond (isDone (judgeVehicle k (modelOf s) (normal y) ws)) (inserted Done (stateOf (vehicleIn (modelOf s) (normal y) ws))) (inserted (judgeVehicle k (modelOf s) (normal y) ws) s)
+  unfolding insertVehicleWith settledInsert closedInsert
+  vehicle-with y ws = sym (on-sound s _ _ (brokenRule s) refl e) ∙ settled k _ _ _ _ _ (vehicle-keeps k (modelOf s) (normal y) ws (normal-neat y) t)
+
+  pub replace-with : (ws : List ℕ) (y : ActiveLock) (by at : ℕ)
+      → commitReplacementWith k s ws y by at
+      ≡ cond (isDone (judgeReplace k (modelOf s) ws (normal y) by at)) (replaced Done (cutOf (modelOf s) ws .gone) (stateOf (replacedIn (modelOf s) ws (normal y) by at)))
+      (replaced (judgeReplace k (modelOf s) ws (normal y) by at) [] s)
+  unfolding commitReplacementWith settledReplace closedReplace
+  replace-with ws y by at = sym (on-sound s _ _ (brokenRule s) refl e) ∙ settled k _ _ _ _ _ (replace-keeps k (modelOf s) ws (normal y) by at (normal-neat y) t)
+
+-- and at 64 and 128
 pub insert-exactly : (s : LockState) (y : ActiveLock) → brokenRule s ≡ Sound
     → insertActiveOn s y
     ≡ cond (isDone (judgeInsert full (modelOf s) (normal y))) (inserted Done (stateOf (insertedIn (modelOf s) (normal y)))) (inserted (judgeInsert full (modelOf s) (normal y)) s)
-unfolding insertActiveOn settledInsert closedInsert
-insert-exactly s y e = sym (on-sound s _ _ (brokenRule s) refl e) ∙ settled s _ _ _ _ _ (insert-keeps full (modelOf s) (normal y) (normal-neat y) (sound-of s e))
+unfolding insertActiveOn
+insert-exactly s y e = insert-with full s e (sound-of s e) y
 
 pub vehicle-exactly : (s : LockState) (y : ActiveLock) (ws : List ℕ) → brokenRule s ≡ Sound
     → insertVehicleOn s y ws
     ≡ cond (isDone (judgeVehicle full (modelOf s) (normal y) ws)) (inserted Done (stateOf (vehicleIn (modelOf s) (normal y) ws))) (inserted (judgeVehicle full (modelOf s) (normal y) ws) s)
-unfolding insertVehicleOn settledInsert closedInsert
-vehicle-exactly s y ws e = sym (on-sound s _ _ (brokenRule s) refl e) ∙ settled s _ _ _ _ _ (vehicle-keeps full (modelOf s) (normal y) ws (normal-neat y) (sound-of s e))
+unfolding insertVehicleOn
+vehicle-exactly s y ws e = vehicle-with full s e (sound-of s e) y ws
 
 pub replace-exactly : (s : LockState) (ws : List ℕ) (y : ActiveLock) (by at : ℕ) → brokenRule s ≡ Sound
     → commitReplacementOn s ws y by at
     ≡ cond (isDone (judgeReplace full (modelOf s) ws (normal y) by at)) (replaced Done (cutOf (modelOf s) ws .gone) (stateOf (replacedIn (modelOf s) ws (normal y) by at)))
     (replaced (judgeReplace full (modelOf s) ws (normal y) by at) [] s)
-unfolding commitReplacementOn settledReplace closedReplace
-replace-exactly s ws y by at e = sym (on-sound s _ _ (brokenRule s) refl e) ∙ settled s _ _ _ _ _ (replace-keeps full (modelOf s) ws (normal y) by at (normal-neat y) (sound-of s e))
+unfolding commitReplacementOn
+replace-exactly s ws y by at e = replace-with full s e (sound-of s e) ws y by at
 
 -- and so what holds of both holds of the operation
 judged : {A : Type 0} (P : A → Type 0) (a : Answer) (m : Model) (d e r : A) → (a ≡ Done → Yes (sound full m))
-    → (a ≡ Done → brokenRule (stateOf m) ≡ Sound → P d) → P r → P (cond (isDone a) (cond (isSound (brokenRule (stateOf m))) d e) r)
-judged P a m d e r keep f g = cond-both P _ r (isDone a) (λ t. let q = is-done a t in closes P m d e (keep q) (f q)) (λ t. g)
+    → (a ≡ Done → brokenRule (stateOf m) ≡ Sound → P d) → P r → P (cond (isDone a) (cond (sound full m) d e) r)
+judged P a m d e r keep f g = cond-both P _ r (isDone a) (λ t. let q = is-done a t in rw (cond-true (sound full m) d e (keep q)) (f q (sound-state m (keep q)))) (λ t. g)
 
 unsound-not : (n : ℕ) → UnsoundState n ≡ Invariant → ⊥
 unfolding paperOf
@@ -117,7 +139,7 @@ unsound-not n = differ (λ r. eqb (paperOf r .number) 11) refl refl
 pub insert-active-comes : (P : Inserted → Type 0) (s : LockState) (y : ActiveLock) → ((b : Answer) → (b ≡ Invariant → ⊥) → P (inserted b s))
     → (judgeInsert full (modelOf s) (normal y) ≡ Done → brokenRule (stateOf (insertedIn (modelOf s) (normal y))) ≡ Sound → P (inserted Done (stateOf (insertedIn (modelOf s) (normal y)))))
     → P (insertActiveOn s y)
-unfolding insertActiveOn settledInsert closedInsert
+unfolding insertActiveOn insertActiveWith settledInsert closedInsert
 insert-active-comes P s y refused through =
     by-verdict P s _ _ (λ n. refused (UnsoundState n) (unsound-not n)) (λ e.
     judged P _ _ _ _ _ (insert-keeps full (modelOf s) (normal y) (normal-neat y) (sound-of s e)) through
@@ -126,7 +148,7 @@ insert-active-comes P s y refused through =
 pub insert-vehicle-comes : (P : Inserted → Type 0) (s : LockState) (y : ActiveLock) (ws : List ℕ) → ((b : Answer) → (b ≡ Invariant → ⊥) → P (inserted b s))
     → (judgeVehicle full (modelOf s) (normal y) ws ≡ Done → brokenRule (stateOf (vehicleIn (modelOf s) (normal y) ws)) ≡ Sound → P (inserted Done (stateOf (vehicleIn (modelOf s) (normal y) ws))))
     → P (insertVehicleOn s y ws)
-unfolding insertVehicleOn settledInsert closedInsert
+unfolding insertVehicleOn insertVehicleWith settledInsert closedInsert
 insert-vehicle-comes P s y ws refused through =
     by-verdict P s _ _ (λ n. refused (UnsoundState n) (unsound-not n)) (λ e.
     judged P _ _ _ _ _ (vehicle-keeps full (modelOf s) (normal y) ws (normal-neat y) (sound-of s e)) through
@@ -136,7 +158,7 @@ pub replace-comes : (P : Replaced → Type 0) (s : LockState) (ws : List ℕ) (y
     → (judgeReplace full (modelOf s) ws (normal y) by at ≡ Done → brokenRule (stateOf (replacedIn (modelOf s) ws (normal y) by at)) ≡ Sound
     → P (replaced Done (cutOf (modelOf s) ws .gone) (stateOf (replacedIn (modelOf s) ws (normal y) by at))))
     → P (commitReplacementOn s ws y by at)
-unfolding commitReplacementOn settledReplace closedReplace
+unfolding commitReplacementOn commitReplacementWith settledReplace closedReplace
 replace-comes P s ws y by at refused through =
     by-verdict P s _ _ (λ n. refused (UnsoundState n) (unsound-not n)) (λ e.
     judged P _ _ _ _ _ (replace-keeps full (modelOf s) ws (normal y) by at (normal-neat y) (sound-of s e)) through
@@ -189,22 +211,29 @@ delete-comes P s i refused through =
         cond-both P _ _ (atLast (s .revision)) (λ u. refused deletion.RevisionOverflow (differ (λ r. eqb (deletionPaper r .number) 11) refl refl)) (λ u.
         closes P (withoutTree (modelOf s) r) _ _ (delete-keeps full (modelOf s) r t) (through r q))
 
--- ---- begin_expiration
+-- ---- begin_expiration: "else as delete"
+as-expiration-not : (b : Deletion) → (b ≡ deletion.Invariant → ⊥) → asExpiration b ≡ expiration.Invariant → ⊥
+unfolding expirationPaper
+as-expiration-not deletion.Done f = differ (λ r. eqb (expirationPaper r .number) 11) refl refl
+as-expiration-not (deletion.ActiveLockNotFound i) f = differ (λ r. eqb (expirationPaper r .number) 11) refl refl
+as-expiration-not deletion.RevisionOverflow f = differ (λ r. eqb (expirationPaper r .number) 11) refl refl
+as-expiration-not deletion.Invariant f = λ e. f refl
+as-expiration-not (deletion.UnsoundState n) f = differ (λ r. eqb (expirationPaper r .number) 11) refl refl
+
 pub expiration-comes : (P : Expired → Type 0) (s : LockState) (i : LockId) (now : ℕ) → ((b : Expiration) → (b ≡ expiration.Invariant → ⊥) → P (expired b [] s))
     → ((r : ActiveLock) → find (hasId i) (modelOf s .active) ≡ some r → brokenRule (stateOf (withoutTree (modelOf s) r)) ≡ Sound
     → P (expired expiration.Done (treeOut (modelOf s) r .gone) (stateOf (withoutTree (modelOf s) r))))
     → P (beginExpirationOn s i now)
-unfolding beginExpirationOn expireFound closedExpire expirationPaper
+unfolding beginExpirationOn expireFound expirationPaper
 expiration-comes P s i now refused through =
     by-verdict P s (λ n. expired (expiration.UnsoundState n) [] s) _ (λ n. refused (expiration.UnsoundState n) (differ (λ r. eqb (expirationPaper r .number) 11) refl refl)) (λ v.
-    go (sound-of s v) (find (hasId i) (modelOf s .active)) refl)
+    go (find (hasId i) (modelOf s .active)))
   where
-    go : Yes (sound full (modelOf s)) → (o : Option ActiveLock) → find (hasId i) (modelOf s .active) ≡ o → P (expireFound s now o)
-    go t none q = refused expiration.Stale (differ (λ r. eqb (expirationPaper r .number) 11) refl refl)
-    go t (some r) q =
+    go : (o : Option ActiveLock) → P (expireFound s i now o)
+    go none = refused expiration.Stale (differ (λ r. eqb (expirationPaper r .number) 11) refl refl)
+    go (some r) =
         cond-both P _ _ (ltb now (r .expires)) (λ u. refused (expiration.NotDue (r .expires)) (differ (λ r. eqb (expirationPaper r .number) 11) refl refl)) (λ u.
-        cond-both P _ _ (atLast (s .revision)) (λ u. refused expiration.RevisionOverflow (differ (λ r. eqb (expirationPaper r .number) 11) refl refl)) (λ u.
-        closes P (withoutTree (modelOf s) r) _ _ (delete-keeps full (modelOf s) r t) (through r q)))
+        delete-comes (λ (d : Deleted). P (asExpired d)) s i (λ b f. refused (asExpiration b) (as-expiration-not b f)) through)
 
 -- ---- acknowledge_defunct, expire_defunct: the entries are gone at the last revision too
 pub acknowledge-comes : (P : Acknowledged → Type 0) (s : LockState) (i : LockId) → ((b : Acknowledgement) → (b ≡ acknowledgement.Invariant → ⊥) → P (acknowledged b s))

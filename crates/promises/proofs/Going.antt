@@ -22,7 +22,7 @@ use Rattle.state.specs.declared.DefunctLock.{DefunctLock}
 use Rattle.state.specs.Locks.{dkey, hasIdD}
 use Rattle.rules.specs.Rules.{findD}
 use Rattle.rules.proofs.Ends.{Ends, done, step}
-use Rattle.operations.specs.Table.{redirect, other, dropEntry, dropFound, removeD, removeAll, superseded, supersede}
+use Rattle.operations.specs.Defuncts.{redirect, other, dropEntry, dropFound, removeD, removeAll, superseded, supersede}
 use Rattle.operations.proofs.Leaving.{remove-le, redirect-yes, redirect-no, redirect-lock}
 use Rattle.promises.proofs.Core.{Acyclic}
 
@@ -30,7 +30,7 @@ use Rattle.promises.proofs.Core.{Acyclic}
 pub redirect-key : (e d : DefunctLock) → dkey (redirect e d) ≡ dkey d
 redirect-key e d = ap (λ (x : Lock). key (x .id)) (redirect-lock e d)
 
-redirect-hit : (e d : DefunctLock) → key (d .target) ≡ dkey e → redirect e d .target ≡ e .target
+pub redirect-hit : (e d : DefunctLock) → key (d .target) ≡ dkey e → redirect e d .target ≡ e .target
 redirect-hit e d q = ap (λ (x : DefunctLock). x .target) (sym (redirect-yes e d (eq-eqb _ _ q)))
 
 pub redirect-miss : (e d : DefunctLock) → (key (d .target) ≡ dkey e → ⊥) → redirect e d ≡ d
@@ -58,7 +58,7 @@ drop-kept e t k q =
 
 -- ---- the walk still ends
 module _ (e : DefunctLock) (t : List DefunctLock) (at : findD t (dkey e) ≡ some e) where
-  drop-out : (k : ℕ) → findD t k ≡ none → findD (dropEntry e t) k ≡ none
+  pub drop-out : (k : ℕ) → findD t k ≡ none → findD (dropEntry e t) k ≡ none
   drop-out k n = drop-kept e t k (λ q. Option·none-ne-some e (sym n ∙ ap (findD t) q ∙ at)) ∙ ap (Option·map (redirect e)) n
 
   drop-step : (k : ℕ) (d : DefunctLock) → findD t k ≡ some d → Ends (dropEntry e t) (key (d .target)) → (key (d .target) ≡ dkey e → Ends (dropEntry e t) (key (e .target))) → Ends (dropEntry e t) k

@@ -21,9 +21,11 @@ use Rattle.state.specs.Model.{Model, Limits, fits}
 use Rattle.rules.specs.Rules.{neatL, neatA, neatD, sound}
 use Rattle.operations.specs.declared.answers.Answer.the-variants.{Done}
 use Rattle.operations.specs.Answers.{isDone}
-use Rattle.operations.specs.Table.{removeD, removeAll, supersede, toDefunct, enterAll}
+use Rattle.operations.specs.Defuncts.{removeD, removeAll, supersede, toDefunct, enterAll}
 use Rattle.operations.specs.Trees.{Parts, inTree, startParts, isListed}
-use Rattle.operations.specs.Checks.{conflicts, checkInsert, checkEntry}
+use Rattle.operations.specs.Checks.{conflicts}
+use Rattle.operations.specs.Code.{checkInsert, checkEntry, judgeBundled}
+use Rattle.operations.proofs.Bundles.{judge-insert, judge-replace}
 use Rattle.operations.specs.Insert.{insertedIn, judgeInsert}
 use Rattle.operations.specs.Vehicle.{nest, adopt, vehicleIn, judgeVehicle}
 use Rattle.operations.specs.Renew.{extended, extendAt, renewedIn}
@@ -62,10 +64,10 @@ core-inserted m x n s f =
     core-insert (made n (m .active) (supersede x (m .defunct))) x n (core-shed m (supersede x (m .defunct)) n s g) (comes-on m x (supersede x (m .defunct)) n g f)
 
 pub insert-keeps : (k : Limits) (m : Model) (x : ActiveLock) → Yes (neatA x) → Yes (sound k m) → judgeInsert k m x ≡ Done → Yes (sound k (insertedIn m x))
-unfolding judgeInsert insertedIn
+unfolding judgeBundled insertedIn
 insert-keeps k m x t s e =
     let f = stands-of k m s in
-    let h1 = then-done _ _ (done-is _ e) in
+    let h1 = then-done _ _ (done-is _ (sym (judge-insert k m x) ∙ e)) in
     let h2 = then-done _ _ (h1 .1) in
     let h3 = then-done _ _ (h2 .1) in
     let i = id-ok (m .active) (m .defunct) x (h1 .0) in
@@ -228,10 +230,10 @@ module _ (x : ActiveLock) (by at : ℕ) where
       (o .1)
 
 pub replace-keeps : (k : Limits) (m : Model) (ws : List ℕ) (x : ActiveLock) (by at : ℕ) → Yes (neatA x) → Yes (sound k m) → judgeReplace k m ws x by at ≡ Done → Yes (sound k (replacedIn m ws x by at))
-unfolding judgeReplace checkEntry replacedIn enteredOf orphan hasId
+unfolding checkEntry replacedIn enteredOf orphan hasId
 replace-keeps k m ws x by at t s e =
     let f = stands-of k m s in
-    let h1 = then-done _ _ (done-is _ e) in
+    let h1 = then-done _ _ (done-is _ (sym (judge-replace k m ws x by at) ∙ e)) in
     let h2 = then-done _ _ (h1 .1) in
     let h3 = then-done _ _ (h2 .1) in
     let h4 = then-done _ _ (h3 .1) in

@@ -21,7 +21,7 @@ use Rattle.state.specs.Locks.{dkey, hasIdD}
 use Rattle.state.specs.Model.{Model, Limits}
 use Rattle.rules.specs.Rules.{findD, sound}
 use Rattle.rules.proofs.Ends.{Ends, done, step}
-use Rattle.operations.specs.Table.{redirect, other, dropEntry, dropFound, removeD, removeAll, superseded, supersede}
+use Rattle.operations.specs.Defuncts.{redirect, other, dropEntry, dropFound, removeD, removeAll, superseded, supersede}
 use Rattle.operations.specs.Code.{tookOver}
 use Rattle.operations.proofs.Leaving.{redirect-yes, redirect-lock}
 use Rattle.promises.specs.Orders.{Reordered, same, keep, swap, twice}
@@ -85,7 +85,7 @@ drop-swap e f t n ring =
     ∙ sym (both-gone f e t)
 
 -- in a table where the walk ends no two entries point at each other
-no-ring : (t : List DefunctLock) (e f : DefunctLock) → findD t (key (f .target)) ≡ some e → findD t (key (e .target)) ≡ some f
+pub no-ring : (t : List DefunctLock) (e f : DefunctLock) → findD t (key (f .target)) ≡ some e → findD t (key (e .target)) ≡ some f
     → {k : ℕ} → Ends t k → (k ≡ key (f .target)) ⊎ (k ≡ key (e .target)) → ⊥
 no-ring t e f p q {k} (done n) (inl u) = Option·none-ne-some e (sym n ∙ ap (findD t) u ∙ p)
 no-ring t e f p q {k} (done n) (inr u) = Option·none-ne-some f (sym n ∙ ap (findD t) u ∙ q)

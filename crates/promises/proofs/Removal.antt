@@ -1,16 +1,16 @@
 -- Trees of active locks that go. A tree is closed under parents: what stays keeps its parent. What went was active, is
--- not among what stays, and has no id twice. Assumes nothing.
+-- not among what stays, and has no id twice; no lock is lost. Assumes nothing.
 use mathlib.Core.Path.{_≡_, refl, sym, _∙_, subst}
 use mathlib.Core.Bool.{Bool, true, false}
-use mathlib.Core.List.{List, [], _∷_, map, map-append, List·Memᴰ·append-cases, List·Memᴰ·not-nil, Memᴰ·of-map}
+use mathlib.Core.List.{List, [], _∷_, _++_, map, map-append, List·Memᴰ·append-cases, Memᴰ·append-left, Memᴰ·append-right, List·Memᴰ·not-nil, Memᴰ·of-map}
 use mathlib.Core.Logic.{_⊎_, inl, inr}
 use Prim.Native.Nat.{ℕ}
 use lib.Dec.{eqb}
 use borrow.Author.Tests.{eq-eqb, eqb-true}
 use Rattle.lists.specs.Tests.{_and_, _or_, non, Yes, No}
 use Rattle.lists.specs.Lists.{any, filter, Mem, Fresh, ascending}
-use Rattle.lists.proofs.Tests.{against, →no, non-yes, yes-non, and-l, and-r, and-i, or-e, or-l, cond-both}
-use Rattle.lists.proofs.Lists.{filter→, from-filter, from-unique}
+use Rattle.lists.proofs.Tests.{against, →no, non-yes, yes-non, and-l, and-r, and-i, or-e, or-l, cond-both, by}
+use Rattle.lists.proofs.Lists.{filter→, →filter, from-filter, from-unique}
 use Rattle.ids.specs.Order.{key}
 use Rattle.coverage.specs.declared.LockCoverage.{LockCoverage}
 use Rattle.state.specs.declared.ScopeKey.{ScopeKey}
@@ -70,9 +70,10 @@ pub record Split (l : List ActiveLock) (p : Parts) : Type 0 where
   pub went : (a : ActiveLock) → Mem a (p .gone) → Mem a l
   pub off : (a : ActiveLock) → Mem a (p .gone) → (b : ActiveLock) → Mem b (p .kept) → akey a ≡ akey b → ⊥
   pub once : Fresh (map akey (p .gone))
+  pub both : (a : ActiveLock) → Mem a l → Mem a (p .kept) ⊎ Mem a (p .gone)
 
 pub split-start : (l : List ActiveLock) → Yes (ascending akey l) → Split l (startParts l)
-split-start l o = record { order = o; stays = λ a u. u; went = λ a u. absurd (List·Memᴰ·not-nil u); off = λ a u. absurd (List·Memᴰ·not-nil u); once = tt }
+split-start l o = record { order = o; stays = λ a u. u; went = λ a u. absurd (List·Memᴰ·not-nil u); off = λ a u. absurd (List·Memᴰ·not-nil u); once = tt; both = λ a u. inl u }
 
 split-take : (l : List ActiveLock) (q : ActiveLock → Bool) (p : Parts) → Split l p → Split l (takeParts q p)
 split-take l q p s =
@@ -95,6 +96,14 @@ split-take l q p s =
           let w = Memᴰ·of-map akey (p .gone) u in
           let z = Memᴰ·of-map akey (filter q (p .kept)) v in
           s .off (w .0) (w .1) (z .0) (filter→ q (p .kept) (z .1) .0) (w .2 ∙ sym (z .2))));
+      both = λ a u.
+          elim (s .both a u) [
+            | inl v ↦
+                by (q a) (Mem a (filter (λ a. non (q a)) (p .kept)) ⊎ Mem a (p .gone ++ filter q (p .kept)))
+                (λ t. inr (Memᴰ·append-right (p .gone) (→filter q (p .kept) v t)))
+                (λ t. inl (→filter (λ a. non (q a)) (p .kept) v (yes-non (q a) t)))
+            | inr v ↦ inr (Memᴰ·append-left (filter q (p .kept)) v)
+          ];
     }
 
 split-tree : (l : List ActiveLock) (r : ActiveLock) (p : Parts) → Split l p → Split l (treeParts r p)

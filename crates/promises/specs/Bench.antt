@@ -18,9 +18,9 @@ use Rattle.state.specs.declared.ScopeKey.the-variants.{Vehicle, Ecu, Functional
 use Rattle.state.specs.declared.ActiveLock.{ActiveLock}
 use Rattle.state.specs.declared.DefunctLock.{DefunctLock}
 use Rattle.state.specs.declared.LockState.{LockState}
-use Rattle.state.specs.Locks.{akey, dkey}
+use Rattle.state.specs.Locks.{akey, dkey, makeLock}
 use Rattle.state.specs.Model.{emptyModel, modelOf, stateOf}
-use Rattle.lookups.specs.Papers.{Paper, paper}
+use Rattle.lists.specs.Papers.{Paper, paper}
 use Rattle.operations.specs.Answers.{paperOf, renewalPaper, deletionPaper, expirationPaper, acknowledgementPaper, expiryPaper}
 use Rattle.operations.specs.Insert.{insertActiveOn}
 use Rattle.operations.specs.Vehicle.{insertVehicleOn}
@@ -66,7 +66,7 @@ set es = withEcus noCoverage es
 abbrev pub lock : ℕ → ScopeKey → LockCoverage → ℕ → ActiveLock
 lock i k c s =
     record {
-      lock = record { id = idOf i; coverage = c; principal = 0; metadata = 0; subject = s; scope = k; exclusive = false };
+      lock = makeLock (idOf i) k c s;
       parent = noId;
       expires = 100;
       child = false;

@@ -1,7 +1,15 @@
--- "13 looks only at the final state": an operation without limits is the same one under limits that hold what it leaves.
-use lib.ListN.{length}
-use Rattle.state.specs.Model.{Model, Limits}
+-- "NoRoom exactly where the Rust would end over 64 active or 128 defunct locks", and 01: "13 looks only at the final state."
+-- The same operation without limits is the one under limits that nothing it can leave is over: from at most 64 and 128 it
+-- leaves at most one active lock more, and at most every active lock as a defunct entry more (proofs/Room.antt shows it).
+use mathlib.Core.Bool.{Bool}
+use lib.Dec.{leb}
+use Rattle.lists.specs.Tests.{_and_}
+use Rattle.state.specs.declared.LockState.{LockState}
+use Rattle.state.specs.Model.{Limits}
 
--- the least limits that hold the state
-abbrev pub holding : Model → Limits
-holding m = record { active = length (m .active); defunct = length (m .defunct) }
+abbrev pub unlimited : Limits
+unlimited = record { active = 65; defunct = 192 }
+
+-- the state's counts are within the limits
+unfoldable pub within : Limits → LockState → Bool
+within limits state = leb (state .actives) (limits .active) and leb (state .defuncts) (limits .defunct)

@@ -16,7 +16,7 @@ use Rattle.operations.specs.declared.answers.Answer.{Answer}
 use Rattle.operations.specs.declared.answers.Renewal.{Renewal}
 use Rattle.operations.specs.declared.answers.Renewal.the-variants as renewal
 use Rattle.operations.specs.Answers.{isDone}
-use Rattle.operations.specs.Table.{removeD, removeAll}
+use Rattle.operations.specs.Defuncts.{removeD, removeAll}
 use Rattle.operations.specs.Checks.{atLast}
 use Rattle.operations.specs.Insert.{insertedIn, judgeInsert, insertActiveOn}
 use Rattle.operations.specs.Vehicle.{vehicleIn, judgeVehicle, insertVehicleOn}

@@ -2,11 +2,12 @@
 use mathlib.Core.Path.{_≡_, refl, sym, ap, _∙_}
 use mathlib.Core.Bool.{true}
 use mathlib.Core.List.{List, [], _∷_, _++_}
-use Prim.Native.Nat.{ℕ, zero, suc, _+_, _*_, _/_, _≤_, _<_, min}
+use Prim.Native.Nat.{ℕ, zero, suc, _+_, _-_, _*_, _/_, _≤_, _<_, min}
 use native.Mathlib.Nat.{suc-mul}
 use native.Mathlib.Numerals.{add-one}
 use native.Mathlib.Omega.{arith}
-use lib.ListN.{length, getD, set, replicate}
+use lib.ListN.{length, getD, set, replicate, take, drop, length-drop, drop-of-length-le}
+use lib.Seq.{take-all, take-nil, drop-length}
 use lib.Dec.{leb}
 use borrow.Author.Tests.{leb-true, ne-eqb}
 use Rattle.lists.specs.Places.{inPlaces}
@@ -15,12 +16,12 @@ use Rattle.lists.proofs.Loops.{push-in}
 use Rattle.records.specs.declared.requests.Asked.the-variants.{BadField}
 use Rattle.records.specs.Numbers.{Field, size, field, part, big}
 use Rattle.records.specs.Layouts.{fieldsAt}
-use Rattle.records.specs.Codecs.{Codec, inBody, number, pair, counted}
+use Rattle.records.specs.Codecs.{Codec, inBody, number, pair, countedIn, counted}
 use Rattle.records.specs.Wire.{active}
 use Rattle.records.specs.Feeds.{numbered, target, renewal, expiration, breaking, replacementWith, replacementRest, replacement, metadataRight, requestOf, wordsIn}
 use Rattle.records.proofs.Layouts.{fields-part}
-use Rattle.records.proofs.Codecs.{Lawful, lawful}
-use Rattle.records.proofs.Wire.{and-true, flag-there, flag-back, active-lawful}
+use Rattle.records.proofs.Codecs.{Lawful, Faithful, faithful, lawful}
+use Rattle.records.proofs.Wire.{and-true, flag-there, flag-back, active-lawful, active-faithful}
 
 -- ---- the ACTIVE body within a feed body stands from its fifth byte on
 pub active-part : (s : List ℕ) → fieldsAt (active .layout) s 4 ≡ inBody active (part s 4 87)
@@ -37,26 +38,25 @@ replace-right s = and-true _ ∙ and-t true _ refl ∙ and-true _ ∙ ap (active
 
 -- ---- each codec is lawful
 pub number-lawful : (n : ℕ) → Lawful (number n)
-number-lawful n = record { count = λ x. refl; there = λ x. refl; back = λ s at t. refl }
+number-lawful n = record { count = λ x. refl; back = λ s at t. refl }
 
 pub numbered-lawful : {R : Type 0} (c : Codec R) → Lawful c → Lawful (numbered c)
-numbered-lawful c w = lawful (number 4) c pair (λ p. p .0) (λ p. p .1) (λ p. refl) (λ x y. refl) (λ x y. refl) (number-lawful 4) w
+numbered-lawful c w = lawful (number 4) c pair (λ p. p .0) (λ p. p .1) (λ x y. refl) (λ x y. refl) (number-lawful 4) w
 
-pub counted-lawful : {R : Type 0} (c : Codec R) → Lawful c → Lawful (counted c)
-counted-lawful c w = lawful c (number 2) pair (λ p. p .0) (λ p. p .1) (λ p. refl) (λ x y. refl) (λ x y. refl) w (number-lawful 2)
+pub counted-lawful : {R : Type 0} (width : ℕ) (c : Codec R) → Lawful c → Lawful (countedIn width c)
+counted-lawful width c w = lawful c (number width) pair (λ p. p .0) (λ p. p .1) (λ x y. refl) (λ x y. refl) w (number-lawful width)
 
 pub target-lawful : Lawful target
-target-lawful = record { count = λ i. refl; there = λ i. refl; back = λ s at t. refl }
+target-lawful = record { count = λ i. refl; back = λ s at t. refl }
 
 pub expiration-lawful : Lawful expiration
-expiration-lawful = record { count = λ e. refl; there = λ e. refl; back = λ s at t. refl }
+expiration-lawful = record { count = λ e. refl; back = λ s at t. refl }
 
 pub renewal-lawful : Lawful renewal
 unfolding metadataRight
 renewal-lawful =
     record {
       count = λ r. refl;
-      there = λ r. λ i. record { id = r .id; expires = r .expires; time = r .time; metadata = r .metadata; given = flag-there (r .given) i };
       back = λ s at t.
           let v = fieldsAt (renewal .layout) s at in
           let e = flag-back (getD v 4 0) (leb-true _ _ (and-l (leb (getD v 4 0) 1) _ t)) in
@@ -64,10 +64,30 @@ renewal-lawful =
     }
 
 breaking-lawful : Lawful breaking
-breaking-lawful = record { count = λ b. refl; there = λ b. refl; back = λ s at t. refl }
+breaking-lawful = record { count = λ b. refl; back = λ s at t. refl }
 
 pub replacement-lawful : Lawful replacement
-replacement-lawful = lawful active breaking replacementWith (λ r. r .lock) replacementRest (λ r. refl) (λ a b. refl) (λ a b. refl) active-lawful breaking-lawful
+replacement-lawful = lawful active breaking replacementWith (λ r. r .lock) replacementRest (λ a b. refl) (λ a b. refl) active-lawful breaking-lawful
+
+-- ---- and faithful
+pub numbered-faithful : {R : Type 0} (c : Codec R) → Faithful c → Faithful (numbered c)
+numbered-faithful c f = faithful (number 4) c pair (λ p. p .0) (λ p. p .1) (λ p. refl) (number-lawful 4) (λ x. refl) f
+
+pub counted-faithful : {R : Type 0} (width : ℕ) (c : Codec R) → Lawful c → Faithful c → Faithful (countedIn width c)
+counted-faithful width c w f = faithful c (number width) pair (λ p. p .0) (λ p. p .1) (λ p. refl) w f (λ x. refl)
+
+pub renewal-faithful : Faithful renewal
+renewal-faithful r = λ i. record { id = r .id; expires = r .expires; now = r .now; metadata = r .metadata; given = flag-there (r .given) i }
+
+pub replacement-faithful : Faithful replacement
+replacement-faithful = faithful active breaking replacementWith (λ r. r .lock) replacementRest (λ r. refl) active-lawful active-faithful (λ b. refl)
+
+-- ---- what follows the first k bytes
+pub past-none : (s : List ℕ) (k : ℕ) → length s < k → take (length s - length s) (drop (length s) s) ≡ drop k s
+past-none s k h = ap (take (length s - length s)) (drop-length s) ∙ take-nil (length s - length s) ∙ sym (drop-of-length-le s (let z : length s ≤ k = omega arith in z))
+
+pub past-some : (s : List ℕ) (k : ℕ) → take (length s - k) (drop k s) ≡ drop k s
+past-some s k = take-all (length s - k) (drop k s) (omega (arith, length-drop k s))
 
 -- ---- words, one more at a time
 fields-more : (n : ℕ) (f : Field) (s : List ℕ) (at : ℕ) → fieldsAt (replicate (suc n) f) s at ≡ fieldsAt (replicate n f) s at ++ (field f s (at + n * size f) ∷ [])

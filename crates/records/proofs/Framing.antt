@@ -8,7 +8,9 @@ use native.Mathlib.Omega.{arith}
 use lib.ListN.{length, getD, length-append}
 use lib.Dec.{eqb, ltb}
 use borrow.Author.Tests.{eq-eqb, ne-eqb, lt-ltb, le-ltb, eqb-true, ltb-false}
+use Rattle.lists.specs.Papers.{Paper}
 use Rattle.lists.specs.Tests.{non, Yes, No}
+use Rattle.lists.proofs.Papers.{pick, one-to-one, valueAt}
 use Rattle.lists.proofs.Tests.{non-t, non-f, cond-true, cond-false}
 use Rattle.records.specs.declared.kinds.Kind.{Kind}
 use Rattle.records.specs.declared.kinds.Row.{Row}
@@ -19,7 +21,7 @@ use Rattle.records.specs.declared.frame.Framed.the-variants.{Torn, BadKi
 use Rattle.records.specs.Numbers.{little, field, part, bytesOf}
 use Rattle.records.specs.Layouts.{fieldsAt, pack}
 use Rattle.records.specs.Table.{rowOf, possible}
-use Rattle.records.specs.Framing.{spanOf, frameOf, frameBy, frameAt, recordOf, paperOf}
+use Rattle.records.specs.Framing.{spanOf, frameOf, frameBy, frameAt, recordOf, framedPaper}
 use Rattle.records.proofs.Numbers.{Bytes, length-bytesOf, length-part, part-add}
 use Rattle.records.proofs.Layouts.{fields-in, part-in, pack-fields}
 use Rattle.records.proofs.Table.{rule, length-of}
@@ -187,20 +189,17 @@ record-part s at due f k e =
     ∙ ap (λ (a : ℕ). bytesOf (little 2) (length (part s a (f .size)) + 2) ++ (bytesOf (little 2) (f .kind) ++ part s a (f .size))) (sym (w .starts)))
 
 -- ---- on paper
-ofPaper : List ℕ → Framed
-ofPaper v =
-    cond (eqb (getD v 0 0) 17) (Torn (getD v 1 0))
-    (cond (eqb (getD v 0 0) 18) (BadKind (getD v 1 0))
-    (cond (eqb (getD v 0 0) 19) (BadField (getD v 1 0))
-    (Record (record { kind = getD v 1 0; start = getD v 2 0; size = getD v 3 0; units = getD v 4 0; next = getD v 5 0 }))))
+framedOf : Paper → Framed
+framedOf p =
+    pick (p .number) ((17, Torn (valueAt p 0)) ∷ (18, BadKind (valueAt p 0)) ∷ (19, BadField (valueAt p 0)) ∷ [])
+    (Record (record { kind = valueAt p 0; start = valueAt p 1; size = valueAt p 2; units = valueAt p 3; next = valueAt p 4 }))
 
-of-paper : (a : Framed) → ofPaper (paperOf a) ≡ a
-unfolding ofPaper
-of-paper (Torn at) = refl
-of-paper (BadKind at) = refl
-of-paper (BadField at) = refl
-of-paper (Record f) = refl
+framed-back : (a : Framed) → framedOf (framedPaper a) ≡ a
+unfolding framedOf framedPaper
+framed-back (Torn at) = refl
+framed-back (BadKind at) = refl
+framed-back (BadField at) = refl
+framed-back (Record f) = refl
 
--- two answers with one number and one list of values are one
-pub paper-one : (a b : Framed) → paperOf a ≡ paperOf b → a ≡ b
-paper-one a b e = sym (of-paper a) ∙ ap ofPaper e ∙ of-paper b
+pub framed-one : (a b : Framed) → framedPaper a ≡ framedPaper b → a ≡ b
+framed-one = one-to-one framedPaper framedOf framed-back

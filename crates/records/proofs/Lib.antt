@@ -11,3 +11,4 @@ pub mod Trips
 pub mod Sets
 pub mod Examples
 pub mod Runs
+pub mod Papers

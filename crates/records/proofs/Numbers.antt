@@ -9,6 +9,7 @@ use lib.Arith.{mod-mul}
 use lib.Dec.{lit<}
 use lib.ListN.{length, set, getD, take, drop, length-append, length-take, length-drop, length-reverse, take-append-drop}
 use lib.Seq.{set-split, append-snoc, take-add, drop-drop, take-at, drop-cons, drop-append-add}
+pub use Rattle.lists.proofs.Places.{length-splice}
 use Rattle.records.specs.Numbers.{num, digits, part, splice, Field, little, big, size, valueOf, bytesOf, field}
 
 -- every element is a byte
@@ -49,10 +50,6 @@ length-part s at n h = simp (length-take, length-drop) (omega arith)
 
 pub part-one : (s : List ℕ) (at : ℕ) → at < length s → part s at 1 ≡ getD s at 0 ∷ []
 part-one s at h = ap (take 1) (drop-cons s at 0 h)
-
-pub length-splice : (s : List ℕ) (at : ℕ) (b : List ℕ) → at + length b ≤ length s → length (splice s at b) ≡ length s
-unfolding splice
-length-splice s at b h = simp (length-append, length-take, length-drop) (omega arith)
 
 drop-past : (p q : List ℕ) (n m : ℕ) → length p ≡ n → drop (n + m) (p ++ q) ≡ drop m q
 drop-past p q n m e = subst (λ (k : ℕ). drop (k + m) (p ++ q) ≡ drop m q) e (drop-append-add p q m)

@@ -43,13 +43,13 @@ module _ {R : Type 0} (ask : R → Request) (one : (x y : R) → ask x ≡ ask y
   pub asked-trips : (c : Codec R) → Lawful c → RoundTrips (numbered c) (asked ask) BadField
   asked-trips c w = round-trips (numbered c) (asked ask) BadField (numbered-lawful c w) asked-apart
 
-  pub asked-counted : (c : Codec R) → Lawful c → CountedTrips (numbered c) (asked ask) BadField
-  asked-counted c w = counted-trips (numbered c) (asked ask) BadField (counted-lawful (numbered c) (numbered-lawful c w)) asked-apart
+  pub asked-counted : (c : Codec R) → Lawful c → CountedTrips 2 16 (numbered c) (asked ask) BadField
+  asked-counted c w = counted-trips 2 16 (numbered c) (asked ask) BadField (counted-lawful 2 (numbered c) (numbered-lawful c w)) asked-apart
 
 pub insert-trips : RoundTrips (numbered active) (asked Insert) BadField
 insert-trips = asked-trips Insert (λ x y e. cc) active active-lawful
 
-pub insert-vehicle-trips : CountedTrips (numbered active) (asked InsertVehicle) BadField
+pub insert-vehicle-trips : CountedTrips 2 16 (numbered active) (asked InsertVehicle) BadField
 insert-vehicle-trips = asked-counted InsertVehicle (λ x y e. cc) active active-lawful
 
 pub renew-trips : RoundTrips (numbered renewal) (asked Renew) BadField
@@ -61,7 +61,7 @@ delete-trips = asked-trips Delete (λ x y e. cc) target target-lawful
 pub begin-expiration-trips : RoundTrips (numbered expiration) (asked BeginExpiration) BadField
 begin-expiration-trips = asked-trips BeginExpiration (λ x y e. cc) expiration expiration-lawful
 
-pub replace-trips : CountedTrips (numbered replacement) (asked Replace) BadField
+pub replace-trips : CountedTrips 2 16 (numbered replacement) (asked Replace) BadField
 replace-trips = asked-counted Replace (λ x y e. cc) replacement replacement-lawful
 
 pub acknowledge-trips : RoundTrips (numbered target) (asked Acknowledge) BadField

@@ -19,7 +19,7 @@ use Rattle.records.specs.Layouts.{total, fieldsAt}
 use Rattle.records.specs.Table.{rows, rowOf, lengthOf}
 use Rattle.records.specs.Codecs.{inBody}
 use Rattle.records.specs.Wire.{flag, scopeKind, scopeNumber, scopeOf, scopeRight, setRight, parentRight, lockStart, activeEnd, activeWith, activeRest, active, defunctEnd, defunctWith, defunctRest, defunct, head}
-use Rattle.records.proofs.Codecs.{Lawful, lawful}
+use Rattle.records.proofs.Codecs.{Lawful, Faithful, faithful, lawful}
 
 -- ---- the code's connectives
 pub three : (a b c : Bool) → ((a && b) && c) ≡ (a and b and c)
@@ -100,16 +100,6 @@ pub lock-lawful : Lawful lockStart
 lock-lawful =
     record {
       count = λ l. refl;
-      there = λ l. λ i.
-          record {
-            id = l .id;
-            coverage = record { w0 = l .coverage .w0; w1 = l .coverage .w1; w2 = l .coverage .w2; w3 = l .coverage .w3; whole = unset-there (l .coverage .whole) i };
-            principal = l .principal;
-            metadata = l .metadata;
-            subject = l .subject;
-            scope = scope-there (l .scope) i;
-            exclusive = flag-there (l .exclusive) i;
-          };
       back = λ s at t. lock-back _ _ _ _ _ _ _ _ _ _ _ _ _ t;
     }
 
@@ -118,7 +108,6 @@ unfolding parentRight
 active-end-lawful =
     record {
       count = λ e. refl;
-      there = λ e. λ i. (e .0, flag-there (e .1) i, e .2);
       back = λ s at t.
           let v = fieldsAt (activeEnd .layout) s at in
           let e = flag-back (getD v 1 0) (leb-true _ _ (and-l (leb (getD v 1 0) 1) _ t)) in
@@ -126,16 +115,41 @@ active-end-lawful =
     }
 
 pub defunct-end-lawful : Lawful defunctEnd
-defunct-end-lawful = record { count = λ e. refl; there = λ e. refl; back = λ s at t. refl }
+defunct-end-lawful = record { count = λ e. refl; back = λ s at t. refl }
 
 pub active-lawful : Lawful active
-active-lawful = lawful lockStart activeEnd activeWith (λ a. a .lock) activeRest (λ a. refl) (λ l e. refl) (λ l e. refl) lock-lawful active-end-lawful
+active-lawful = lawful lockStart activeEnd activeWith (λ a. a .lock) activeRest (λ l e. refl) (λ l e. refl) lock-lawful active-end-lawful
 
 pub defunct-lawful : Lawful defunct
-defunct-lawful = lawful lockStart defunctEnd defunctWith (λ d. d .lock) defunctRest (λ d. refl) (λ l e. refl) (λ l e. refl) lock-lawful defunct-end-lawful
+defunct-lawful = lawful lockStart defunctEnd defunctWith (λ d. d .lock) defunctRest (λ l e. refl) (λ l e. refl) lock-lawful defunct-end-lawful
 
 pub head-lawful : Lawful head
-head-lawful = record { count = λ h. refl; there = λ h. refl; back = λ s at t. refl }
+head-lawful = record { count = λ h. refl; back = λ s at t. refl }
+
+-- ---- and faithful
+pub lock-faithful : Faithful lockStart
+lock-faithful l = λ i.
+    record {
+      id = l .id;
+      coverage = record { w0 = l .coverage .w0; w1 = l .coverage .w1; w2 = l .coverage .w2; w3 = l .coverage .w3; whole = unset-there (l .coverage .whole) i };
+      principal = l .principal;
+      metadata = l .metadata;
+      subject = l .subject;
+      scope = scope-there (l .scope) i;
+      exclusive = flag-there (l .exclusive) i;
+    }
+
+active-end-faithful : Faithful activeEnd
+active-end-faithful e = λ i. (e .0, flag-there (e .1) i, e .2)
+
+pub active-faithful : Faithful active
+active-faithful = faithful lockStart activeEnd activeWith (λ a. a .lock) activeRest (λ a. refl) lock-lawful lock-faithful active-end-faithful
+
+pub defunct-faithful : Faithful defunct
+defunct-faithful = faithful lockStart defunctEnd defunctWith (λ d. d .lock) defunctRest (λ d. refl) lock-lawful lock-faithful (λ e. refl)
+
+pub head-faithful : Faithful head
+head-faithful h = refl
 
 -- ---- of a lock's own numbers, only what does not apply can be wrong
 scope-fine : (k : ScopeKey) → Yes (scopeRight (scopeKind k) (scopeNumber k))

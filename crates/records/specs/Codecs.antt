@@ -47,12 +47,19 @@ number n = record { layout = little n ∷ []; made = λ v. getD v 0 0; numbers =
 abbrev pub pair : {A B : Type 0} → A → B → A × B
 pair a b = (a, b)
 
--- c, then a count of ids (u16)
-abbrev pub counted : {R : Type 0} → Codec R → Codec (R × ℕ)
-counted c = joined c (number 2) pair (λ p. p .0) (λ p. p .1)
+-- c, then a count of `width` bytes
+abbrev pub countedIn : {R : Type 0} → ℕ → Codec R → Codec (R × ℕ)
+countedIn width c = joined c (number width) pair (λ p. p .0) (λ p. p .1)
 
--- the answer to a body that is one of c, a count, and 16 bytes for each id
+-- the answer to a body that is one of c, a count of `width` bytes, and `unit` bytes for each part counted
+abbrev pub decodeCountedIn : {R A : Type 0} → ℕ → ℕ → Codec R → (R → A) → A → List ℕ → A
+decodeCountedIn width unit c good bad s =
+    let v = inBody (countedIn width c) s in
+    cond (eqb (length s) (total (countedIn width c .layout) + countedIn width c .made v .1 * unit) and countedIn width c .right v) (good (countedIn width c .made v .0)) bad
+
+-- "count 2, ids": an id has 16 bytes
+abbrev pub counted : {R : Type 0} → Codec R → Codec (R × ℕ)
+counted c = countedIn 2 c
+
 abbrev pub decodeCounted : {R A : Type 0} → Codec R → (R → A) → A → List ℕ → A
-decodeCounted c good bad s =
-    let v = inBody (counted c) s in
-    cond (eqb (length s) (total (counted c .layout) + counted c .made v .1 * 16) and counted c .right v) (good (counted c .made v .0)) bad
+decodeCounted c good bad s = decodeCountedIn 2 16 c good bad s

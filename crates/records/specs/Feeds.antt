@@ -2,21 +2,21 @@
 use Prim.Native.Nat.{ℕ, _/_, min}
 use mathlib.Core.Bool.{Bool, true, cond}
 use mathlib.Core.List.{List, [], _∷_}
-use lib.ListN.{length, getD, replicate}
+use lib.ListN.{length, getD, drop, replicate}
 use lib.Dec.{eqb, leb}
 use Rattle.lists.specs.Tests.{_and_, _imp_}
 use Rattle.ids.specs.declared.LockId.{LockId}
 use Rattle.state.specs.declared.ActiveLock.{ActiveLock}
-use Rattle.records.specs.declared.requests.Renewal.{Renewal}
-use Rattle.records.specs.declared.requests.Expiration.{Expiration}
-use Rattle.records.specs.declared.requests.Replacement.{Replacement}
+use Rattle.records.specs.declared.requests.RenewRequest.{RenewRequest}
+use Rattle.records.specs.declared.requests.ExpirationRequest.{ExpirationRequest}
+use Rattle.records.specs.declared.requests.ReplaceRequest.{ReplaceRequest}
 use Rattle.records.specs.declared.requests.Request.{Request}
 use Rattle.records.specs.declared.requests.Request.the-variants.{Insert, InsertVehicle, Renew, Delete, BeginExpiration, Replace, Acknowledge, ExpireDefunct}
 use Rattle.records.specs.declared.requests.Asked.{Asked}
 use Rattle.records.specs.declared.requests.Asked.the-variants.{Good, BadField}
 use Rattle.records.specs.Numbers.{little, big}
-use Rattle.records.specs.Layouts.{fieldsAt}
-use Rattle.records.specs.Codecs.{Codec, decodeBy, decodeCounted, joined, number, pair}
+use Rattle.records.specs.Layouts.{fieldsAt, total}
+use Rattle.records.specs.Codecs.{Codec, decodeBy, decodeCounted, counted, joined, number, pair}
 use Rattle.records.specs.Wire.{id, flag, active}
 
 -- a body after its sequence
@@ -36,23 +36,23 @@ unfoldable pub metadataRight : ℕ → ℕ → Bool
 metadataRight g m = leb g 1 and (eqb g 0 imp eqb m 0)
 
 -- "18 id, expiry 8, now 8, has-metadata 1, metadata 4"
-abbrev pub renewal : Codec Renewal
+abbrev pub renewal : Codec RenewRequest
 renewal =
     record {
       layout = big 8 ∷ big 8 ∷ little 8 ∷ little 8 ∷ little 1 ∷ little 4 ∷ [];
       made = λ v.
-          record { id = id (getD v 0 0) (getD v 1 0); expires = getD v 2 0; time = getD v 3 0; metadata = getD v 5 0; given = eqb (getD v 4 0) 1 };
-      numbers = λ r. r .id .hi ∷ r .id .lo ∷ r .expires ∷ r .time ∷ flag (r .given) ∷ r .metadata ∷ [];
+          record { id = id (getD v 0 0) (getD v 1 0); expires = getD v 2 0; now = getD v 3 0; metadata = getD v 5 0; given = eqb (getD v 4 0) 1 };
+      numbers = λ r. r .id .hi ∷ r .id .lo ∷ r .expires ∷ r .now ∷ flag (r .given) ∷ r .metadata ∷ [];
       right = λ v. metadataRight (getD v 4 0) (getD v 5 0);
     }
 
 -- "20 id, now 8"
-abbrev pub expiration : Codec Expiration
+abbrev pub expiration : Codec ExpirationRequest
 expiration =
     record {
       layout = big 8 ∷ big 8 ∷ little 8 ∷ [];
-      made = λ v. record { id = id (getD v 0 0) (getD v 1 0); time = getD v 2 0 };
-      numbers = λ e. e .id .hi ∷ e .id .lo ∷ e .time ∷ [];
+      made = λ v. record { id = id (getD v 0 0) (getD v 1 0); now = getD v 2 0 };
+      numbers = λ e. e .id .hi ∷ e .id .lo ∷ e .now ∷ [];
       right = λ v. true;
     }
 
@@ -66,14 +66,14 @@ breaking =
       right = λ v. true;
     }
 
-abbrev pub replacementWith : ActiveLock → ℕ × ℕ → Replacement
+abbrev pub replacementWith : ActiveLock → ℕ × ℕ → ReplaceRequest
 replacementWith a b = record { lock = a; broken = b .1; breaker = b .0 }
 
-abbrev pub replacementRest : Replacement → ℕ × ℕ
+abbrev pub replacementRest : ReplaceRequest → ℕ × ℕ
 replacementRest r = (r .breaker, r .broken)
 
 -- "21 ACTIVE body, broken by 4, broken at 8"
-abbrev pub replacement : Codec Replacement
+abbrev pub replacement : Codec ReplaceRequest
 replacement = joined active breaking replacementWith (λ r. r .lock) replacementRest
 
 -- a sequence and what is asked under it
@@ -116,6 +116,21 @@ requestOf k s =
     (cond (eqb k 21) (replaceOf s)
     (cond (eqb k 22) (acknowledgeOf s)
     (cond (eqb k 23) (expireDefunctOf s) BadField)))))))
+
+-- "17 ACTIVE body, count 2, ids", "21 ACTIVE body, broken by 4, broken at 8, count 2, ids": the bytes of the ids, which follow
+-- what the count ends; no other body has any
+abbrev pub pastCount : {R : Type 0} → Codec R → List ℕ → List ℕ
+pastCount c b = drop (total (counted c .layout)) b
+
+abbrev pub listIn : Request → List ℕ → List ℕ
+listIn (Insert x) b = []
+listIn (InsertVehicle x) b = pastCount (numbered active) b
+listIn (Renew r) b = []
+listIn (Delete i) b = []
+listIn (BeginExpiration e) b = []
+listIn (Replace r) b = pastCount (numbered replacement) b
+listIn (Acknowledge i) b = []
+listIn (ExpireDefunct now) b = []
 
 -- "An id list holds two u64 words an id, first half first, each big-endian": the words of a part, at most 128
 unfoldable pub wordsIn : List ℕ → List ℕ

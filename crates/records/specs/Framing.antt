@@ -5,6 +5,7 @@ use mathlib.Core.List.{List, [], _∷_, _++_}
 use lib.ListN.{length}
 use lib.Dec.{eqb, ltb}
 use Rattle.lists.specs.Tests.{non}
+use Rattle.lists.specs.Papers.{Paper, paper}
 use Rattle.records.specs.declared.kinds.Kind.{Kind}
 use Rattle.records.specs.declared.kinds.Row.{Row}
 use Rattle.records.specs.declared.kinds.Row.the-variants.{Known, Unknown}
@@ -41,9 +42,9 @@ frameAt s at due =
 unfoldable pub recordOf : ℕ → List ℕ → List ℕ
 recordOf k b = bytesOf (little 2) (length b + 2) ++ (bytesOf (little 2) k ++ b)
 
--- 01's number of each case and its values: of a refusal, the offset; of a record, 0 and the frame
-abbrev pub paperOf : Framed → List ℕ
-paperOf (Torn at) = 17 ∷ at ∷ []
-paperOf (BadKind at) = 18 ∷ at ∷ []
-paperOf (BadField at) = 19 ∷ at ∷ []
-paperOf (Record f) = 0 ∷ f .kind ∷ f .start ∷ f .size ∷ f .units ∷ f .next ∷ []
+-- on paper: of a refusal, the offset; of a record, the frame
+unfoldable pub framedPaper : Framed → Paper
+framedPaper (Torn at) = paper 17 (at ∷ [])
+framedPaper (BadKind at) = paper 18 (at ∷ [])
+framedPaper (BadField at) = paper 19 (at ∷ [])
+framedPaper (Record f) = paper 0 (f .kind ∷ f .start ∷ f .size ∷ f .units ∷ f .next ∷ [])

@@ -5,3 +5,4 @@ pub mod Table
 pub mod Framing
 pub mod Wire
 pub mod Feeds
+pub mod Papers

@@ -1,18 +1,26 @@
 // The bodies of HEAD, ACTIVE and DEFUNCT: each is read from a part of a slice that is that body.
 // SPDX-License-Identifier: Apache-2.0
 use crate::fields;
+use crate::layout;
 use coverage::LockCoverage;
 use ids::LockId;
 use state::ActiveLock;
 use state::DefunctLock;
 use state::Lock;
+use state::LockState;
 use state::ScopeKey;
 ghost use mathlib.Core.Path.{_≡_};
 ghost use Prim.Native.Nat.{_+_, _≤_};
 ghost use lib.ListN.{length};
 ghost use Rattle.records.specs.Numbers.{field, big};
+ghost use Rattle.records.specs.Layouts.{total};
 ghost use Rattle.records.specs.Codecs.{inBody, decodeBy};
 ghost use Rattle.records.specs.Wire.{id, scopeOf, scopeRight, setRight, parentRight, lockStart, active, defunct, head};
+
+// The state's limits, in HEAD's width.
+const MOST_ACTIVES: u16 = LockState::ACTIVE as u16;
+
+const MOST_DEFUNCTS: u16 = LockState::DEFUNCT as u16;
 
 // expected: the sequence number that is due next in the feed.
 pub struct Head {
@@ -57,30 +65,33 @@ fn parent_right(kind: u8, hi: u64, lo: u64) -> bool
 }
 
 fn lock_right(s: &[u8]) -> bool
-    requires { ⌜ 62 ≤ length (now s) ⌝ }
+    requires { ⌜ total (lockStart .layout) ≤ length (now s) ⌝ }
     ensures { λ r. ⌜ r ≡ lockStart .right (inBody lockStart (now (s .entry))) ⌝ }
 {
-    let scope = scope_right(fields::u8_at(s, 16), fields::u8_at(s, 17));
-    let exclusive = fields::u8_at(s, 18) <= 1;
+    let scope = scope_right(
+        fields::u8_at(s, layout::SCOPE_KIND),
+        fields::u8_at(s, layout::SCOPE_NUMBER),
+    );
+    let exclusive = fields::u8_at(s, layout::EXCLUSIVE) <= 1;
     let set = set_right(
-        fields::u8_at(s, 19),
-        fields::u64_at(s, 20),
-        fields::u64_at(s, 28),
-        fields::u64_at(s, 36),
-        fields::u64_at(s, 44),
+        fields::u8_at(s, layout::COVERAGE_KIND),
+        fields::u64_at(s, layout::SET),
+        fields::u64_at(s, layout::SET_1),
+        fields::u64_at(s, layout::SET_2),
+        fields::u64_at(s, layout::SET_3),
     );
     scope & exclusive & set
 }
 
 pub(crate) fn active_right(s: &[u8]) -> bool
-    requires { ⌜ 87 ≤ length (now s) ⌝ }
+    requires { ⌜ total (active .layout) ≤ length (now s) ⌝ }
     ensures { λ r. ⌜ r ≡ active .right (inBody active (now (s .entry))) ⌝ }
 {
     let lock = lock_right(s);
     let parent = parent_right(
-        fields::u8_at(s, 70),
-        fields::big64_at(s, 71),
-        fields::big64_at(s, 79),
+        fields::u8_at(s, layout::HAS_PARENT),
+        fields::big64_at(s, layout::PARENT),
+        fields::big64_at(s, layout::PARENT_LO),
     );
     lock & parent
 }
@@ -92,7 +103,7 @@ pub(crate) fn id_at(s: &[u8], at: usize) -> LockId
 {
     LockId {
         hi: fields::big64_at(s, at),
-        lo: fields::big64_at(s, at + 8),
+        lo: fields::big64_at(s, at + layout::HALF),
     }
 }
 
@@ -109,62 +120,65 @@ pub fn scope_of(kind: u8, number: u8) -> ScopeKey
 }
 
 fn lock_made(s: &[u8]) -> Lock
-    requires { ⌜ 62 ≤ length (now s) ⌝ }
+    requires { ⌜ total (lockStart .layout) ≤ length (now s) ⌝ }
     ensures { λ r. ⌜ r ≡ lockStart .made (inBody lockStart (now (s .entry))) ⌝ }
 {
     let coverage = LockCoverage {
-        w0: fields::u64_at(s, 20),
-        w1: fields::u64_at(s, 28),
-        w2: fields::u64_at(s, 36),
-        w3: fields::u64_at(s, 44),
-        whole: fields::u8_at(s, 19) == 0,
+        w0: fields::u64_at(s, layout::SET),
+        w1: fields::u64_at(s, layout::SET_1),
+        w2: fields::u64_at(s, layout::SET_2),
+        w3: fields::u64_at(s, layout::SET_3),
+        whole: fields::u8_at(s, layout::COVERAGE_KIND) == 0,
     };
     Lock {
         id: id_at(s, 0),
         coverage,
-        principal: fields::u32_at(s, 54),
-        metadata: fields::u32_at(s, 58),
-        subject: fields::u16_at(s, 52),
-        scope: scope_of(fields::u8_at(s, 16), fields::u8_at(s, 17)),
-        exclusive: fields::u8_at(s, 18) == 1,
+        principal: fields::u32_at(s, layout::PRINCIPAL),
+        metadata: fields::u32_at(s, layout::METADATA),
+        subject: fields::u16_at(s, layout::SUBJECT),
+        scope: scope_of(
+            fields::u8_at(s, layout::SCOPE_KIND),
+            fields::u8_at(s, layout::SCOPE_NUMBER),
+        ),
+        exclusive: fields::u8_at(s, layout::EXCLUSIVE) == 1,
     }
 }
 
 pub(crate) fn active_made(s: &[u8]) -> ActiveLock
-    requires { ⌜ 87 ≤ length (now s) ⌝ }
+    requires { ⌜ total (active .layout) ≤ length (now s) ⌝ }
     ensures { λ r. ⌜ r ≡ active .made (inBody active (now (s .entry))) ⌝ }
 {
     ActiveLock {
         lock: lock_made(s),
-        parent: id_at(s, 71),
-        expires: fields::u64_at(s, 62),
-        child: fields::u8_at(s, 70) == 1,
+        parent: id_at(s, layout::PARENT),
+        expires: fields::u64_at(s, layout::EXPIRY),
+        child: fields::u8_at(s, layout::HAS_PARENT) == 1,
     }
 }
 
 fn defunct_made(s: &[u8]) -> DefunctLock
-    requires { ⌜ 100 ≤ length (now s) ⌝ }
+    requires { ⌜ total (defunct .layout) ≤ length (now s) ⌝ }
     ensures { λ r. ⌜ r ≡ defunct .made (inBody defunct (now (s .entry))) ⌝ }
 {
     DefunctLock {
         lock: lock_made(s),
-        target: id_at(s, 82),
-        expires: fields::u64_at(s, 62),
-        broken: fields::u64_at(s, 70),
-        breaker: fields::u32_at(s, 78),
-        holder: fields::u16_at(s, 98),
+        target: id_at(s, layout::TARGET),
+        expires: fields::u64_at(s, layout::EXPIRY),
+        broken: fields::u64_at(s, layout::BROKEN_AT),
+        breaker: fields::u32_at(s, layout::BROKEN_BY),
+        holder: fields::u16_at(s, layout::HOLDER),
     }
 }
 
 fn head_made(s: &[u8]) -> Head
-    requires { ⌜ 16 ≤ length (now s) ⌝ }
+    requires { ⌜ total (head .layout) ≤ length (now s) ⌝ }
     ensures { λ r. ⌜ r ≡ head .made (inBody head (now (s .entry))) ⌝ }
 {
     Head {
         revision: fields::u64_at(s, 0),
-        expected: fields::u32_at(s, 8),
-        actives: fields::u16_at(s, 12),
-        defuncts: fields::u16_at(s, 14),
+        expected: fields::u32_at(s, layout::EXPECTED),
+        actives: fields::u16_at(s, layout::ACTIVES),
+        defuncts: fields::u16_at(s, layout::DEFUNCTS),
     }
 }
 
@@ -172,11 +186,11 @@ fn head_made(s: &[u8]) -> Head
 pub fn decode_head(s: &[u8]) -> HeadRead
     ensures { λ r. ⌜ r ≡ decodeBy head HeadRead.Good HeadRead.BadField (now (s .entry)) ⌝ }
 {
-    if s.len() != 16 {
+    if s.len() != layout::HEAD {
         return HeadRead::BadField;
     }
     let h = head_made(s);
-    if (h.actives <= 64) & (h.defuncts <= 128) {
+    if (h.actives <= MOST_ACTIVES) & (h.defuncts <= MOST_DEFUNCTS) {
         return HeadRead::Good(h);
     }
     HeadRead::BadField
@@ -185,7 +199,7 @@ pub fn decode_head(s: &[u8]) -> HeadRead
 pub fn decode_active(s: &[u8]) -> ActiveRead
     ensures { λ r. ⌜ r ≡ decodeBy active ActiveRead.Good ActiveRead.BadField (now (s .entry)) ⌝ }
 {
-    if s.len() != 87 {
+    if s.len() != layout::ACTIVE {
         return ActiveRead::BadField;
     }
     if active_right(s) {
@@ -197,7 +211,7 @@ pub fn decode_active(s: &[u8]) -> ActiveRead
 pub fn decode_defunct(s: &[u8]) -> DefunctRead
     ensures { λ r. ⌜ r ≡ decodeBy defunct DefunctRead.Good DefunctRead.BadField (now (s .entry)) ⌝ }
 {
-    if s.len() != 100 {
+    if s.len() != layout::DEFUNCT {
         return DefunctRead::BadField;
     }
     if lock_right(s) {

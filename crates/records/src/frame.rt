@@ -7,6 +7,7 @@ use crate::fields;
 use crate::kinds;
 use crate::kinds::Kind;
 use crate::kinds::Row;
+use crate::layout;
 
 // A whole record: its body has size bytes from start on, with units repeated parts, and next is the place past it.
 pub struct Frame {
@@ -37,16 +38,16 @@ fn frame_of(row: Kind, n: u16, at: usize, left: usize, due: u8) -> Framed
         return Framed::BadField(at);
     }
     let size = n as usize;
-    if left < size + 2 {
+    if left < size + layout::LENGTH {
         return Framed::Torn(at);
     }
     let units = kinds::units_in(row, n);
     Framed::Record(Frame {
         kind: row.kind,
-        start: at + 4,
-        size: size - 2,
+        start: at + layout::FRAME,
+        size: size - layout::KIND,
         units,
-        next: at + 2 + size,
+        next: at + layout::LENGTH + size,
     })
 }
 
@@ -58,11 +59,11 @@ pub fn frame_at(s: &[u8], at: usize, due: u8) -> Framed
         return Framed::Torn(at);
     }
     let left = s.len() - at;
-    if left < 4 {
+    if left < layout::FRAME {
         return Framed::Torn(at);
     }
     let n = fields::u16_at(s, at);
-    match kinds::row_of(fields::u16_at(s, at + 2)) {
+    match kinds::row_of(fields::u16_at(s, at + layout::LENGTH)) {
         Row::Known(row) => frame_of(row, n, at, left, due),
         Row::Unknown => Framed::BadKind(at),
     }

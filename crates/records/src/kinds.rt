@@ -1,7 +1,31 @@
 // The kinds of records and their lengths: one table for the reader of images, the reader of feeds and the writer.
 // SPDX-License-Identifier: Apache-2.0
+use crate::layout;
 ghost use mathlib.Core.Path.{_≡_};
 ghost use Rattle.records.specs.Table.{rowOf, unitsIn, possible, lengthOf};
+
+// The kinds: of an image, then of a feed.
+pub const HEAD: u16 = 1;
+
+pub const ACTIVE: u16 = 2;
+
+pub const DEFUNCT: u16 = 3;
+
+pub const INSERT: u16 = 16;
+
+pub const INSERT_VEHICLE: u16 = 17;
+
+pub const RENEW: u16 = 18;
+
+pub const DELETE: u16 = 19;
+
+pub const BEGIN_EXPIRATION: u16 = 20;
+
+pub const REPLACE: u16 = 21;
+
+pub const ACKNOWLEDGE: u16 = 22;
+
+pub const EXPIRE_DEFUNCT: u16 = 23;
 
 // The places where a kind can be due: one for each kind of an image, one for all kinds of a feed.
 pub const AT_HEAD: u8 = 1;
@@ -12,7 +36,7 @@ pub const AT_DEFUNCT: u8 = 3;
 
 pub const IN_FEED: u8 = 4;
 
-// A record of this kind has the length base, and unit more for each of up to 64 units.
+// A record of this kind has the length base, and unit more for each of up to UNITS units.
 pub struct Kind {
     pub kind: u16,
     pub base: u16,
@@ -20,77 +44,78 @@ pub struct Kind {
     pub place: u8,
 }
 
+pub const UNITS: u16 = 64;
+
 pub enum Row {
     Known(Kind),
     Unknown,
 }
 
-const KINDS: [Kind; 11] = [
-    // HEAD, ACTIVE, DEFUNCT
+const COUNT: usize = 11;
+
+const KINDS: [Kind; COUNT] = [
     Kind {
-        kind: 1,
+        kind: HEAD,
         base: 18,
         unit: 0,
         place: AT_HEAD,
     },
     Kind {
-        kind: 2,
+        kind: ACTIVE,
         base: 89,
         unit: 0,
         place: AT_ACTIVE,
     },
     Kind {
-        kind: 3,
+        kind: DEFUNCT,
         base: 102,
         unit: 0,
         place: AT_DEFUNCT,
     },
-    // insert, insert vehicle, renew, delete
     Kind {
-        kind: 16,
+        kind: INSERT,
         base: 93,
         unit: 0,
         place: IN_FEED,
     },
     Kind {
-        kind: 17,
+        kind: INSERT_VEHICLE,
         base: 95,
-        unit: 16,
+        unit: layout::ID as u16,
         place: IN_FEED,
     },
     Kind {
-        kind: 18,
+        kind: RENEW,
         base: 43,
         unit: 0,
         place: IN_FEED,
     },
     Kind {
-        kind: 19,
+        kind: DELETE,
         base: 22,
         unit: 0,
         place: IN_FEED,
     },
-    // begin expiration, replace, acknowledge, expire defunct
     Kind {
-        kind: 20,
+        kind: BEGIN_EXPIRATION,
         base: 30,
         unit: 0,
         place: IN_FEED,
     },
     Kind {
-        kind: 21,
+        kind: REPLACE,
         base: 107,
-        unit: 16,
+        unit: layout::ID as u16,
         place: IN_FEED,
     },
     Kind {
-        kind: 22,
+        kind: ACKNOWLEDGE,
         base: 22,
         unit: 0,
         place: IN_FEED,
     },
     Kind {
-        kind: 23,
+        kind: EXPIRE_DEFUNCT,
         base: 14,
         unit: 0,
         place: IN_FEED,
@@ -101,7 +126,7 @@ pub fn row_of(kind: u16) -> Row
     ensures { λ r. ⌜ r ≡ rowOf kind ⌝ }
 {
     let mut i = 0;
-    while i < 11 {
+    while i < COUNT {
         let row = KINDS[i];
         if row.kind == kind {
             return Row::Known(row);
@@ -129,7 +154,7 @@ pub fn possible(row: Kind, n: u16) -> bool
     ensures { λ r. ⌜ r ≡ possible row n ⌝ }
 {
     let units = units_in(row, n);
-    if 64 < units {
+    if UNITS < units {
         return false;
     }
     (row.base as u32) + (row.unit as u32) * (units as u32) == n as u32

@@ -4,5 +4,6 @@ pub mod bodies;
 pub mod fields;
 pub mod frame;
 pub mod kinds;
+pub mod layout;
 pub mod requests;
 pub mod writing;

@@ -3,6 +3,7 @@
 use crate::bodies::Head;
 use crate::fields;
 use crate::kinds;
+use crate::layout;
 use ids::LockId;
 use state::ActiveLock;
 use state::DefunctLock;
@@ -12,8 +13,9 @@ ghost use mathlib.Core.Path.{_≡_};
 ghost use mathlib.Core.List.{_++_};
 ghost use Prim.Native.Nat.{_+_, _≤_};
 ghost use lib.Dec.{leb};
-ghost use lib.ListN.{length};
+ghost use lib.ListN.{length, take};
 ghost use Rattle.records.specs.Numbers.{little, bytesOf, splice, stored};
+ghost use Rattle.records.specs.Layouts.{total};
 ghost use Rattle.records.specs.Table.{lengthOf};
 ghost use Rattle.records.specs.Framing.{recordOf};
 ghost use Rattle.records.specs.Codecs.{encodeBy, putFields};
@@ -47,72 +49,72 @@ fn scope_number(k: ScopeKey) -> u8
 
 // ---- a lock start, in three pieces: id, scope and flags; the set; the rest
 fn put_start(out: &mut [u8], l: Lock)
-    requires { ⌜ 62 ≤ length (now out) ⌝ }
+    requires { ⌜ total (lockStart .layout) ≤ length (now out) ⌝ }
     ensures { λ r. ⌜ now (out .exit) ≡ putFields lockStart 0 6 l (now (out .entry)) 0 ⌝ }
 {
     let k = l.scope;
     fields::put_big64(out, 0, l.id.hi);
-    fields::put_big64(out, 8, l.id.lo);
-    fields::put_u8(out, 16, scope_kind(k));
-    fields::put_u8(out, 17, scope_number(k));
-    fields::put_u8(out, 18, flag_of(l.exclusive));
-    fields::put_u8(out, 19, flag_of(!l.coverage.whole));
+    fields::put_big64(out, layout::HALF, l.id.lo);
+    fields::put_u8(out, layout::SCOPE_KIND, scope_kind(k));
+    fields::put_u8(out, layout::SCOPE_NUMBER, scope_number(k));
+    fields::put_u8(out, layout::EXCLUSIVE, flag_of(l.exclusive));
+    fields::put_u8(out, layout::COVERAGE_KIND, flag_of(!l.coverage.whole));
 }
 
 fn put_set(out: &mut [u8], l: Lock)
-    requires { ⌜ 62 ≤ length (now out) ⌝ }
-    ensures { λ r. ⌜ now (out .exit) ≡ putFields lockStart 6 4 l (now (out .entry)) 20 ⌝ }
+    requires { ⌜ total (lockStart .layout) ≤ length (now out) ⌝ }
+    ensures { λ r. ⌜ now (out .exit) ≡ putFields lockStart 6 4 l (now (out .entry)) (total (take 6 (lockStart .layout))) ⌝ }
 {
-    fields::put_u64(out, 20, l.coverage.w0);
-    fields::put_u64(out, 28, l.coverage.w1);
-    fields::put_u64(out, 36, l.coverage.w2);
-    fields::put_u64(out, 44, l.coverage.w3);
+    fields::put_u64(out, layout::SET, l.coverage.w0);
+    fields::put_u64(out, layout::SET_1, l.coverage.w1);
+    fields::put_u64(out, layout::SET_2, l.coverage.w2);
+    fields::put_u64(out, layout::SET_3, l.coverage.w3);
 }
 
 fn put_lock(out: &mut [u8], l: Lock)
-    requires { ⌜ 62 ≤ length (now out) ⌝ }
+    requires { ⌜ total (lockStart .layout) ≤ length (now out) ⌝ }
     ensures { λ r. ⌜ now (out .exit) ≡ putFields lockStart 0 13 l (now (out .entry)) 0 ⌝ }
 {
     put_start(out, l);
     put_set(out, l);
-    fields::put_u16(out, 52, l.subject);
-    fields::put_u32(out, 54, l.principal);
-    fields::put_u32(out, 58, l.metadata);
+    fields::put_u16(out, layout::SUBJECT, l.subject);
+    fields::put_u32(out, layout::PRINCIPAL, l.principal);
+    fields::put_u32(out, layout::METADATA, l.metadata);
 }
 
 // ---- bodies
 fn put_active_body(out: &mut [u8], a: ActiveLock)
-    requires { ⌜ 87 ≤ length (now out) ⌝ }
+    requires { ⌜ total (active .layout) ≤ length (now out) ⌝ }
     ensures { λ r. ⌜ now (out .exit) ≡ splice (now (out .entry)) 0 (encodeBy active a) ⌝ }
 {
     put_lock(out, a.lock);
-    fields::put_u64(out, 62, a.expires);
-    fields::put_u8(out, 70, flag_of(a.child));
-    fields::put_big64(out, 71, a.parent.hi);
-    fields::put_big64(out, 79, a.parent.lo);
+    fields::put_u64(out, layout::EXPIRY, a.expires);
+    fields::put_u8(out, layout::HAS_PARENT, flag_of(a.child));
+    fields::put_big64(out, layout::PARENT, a.parent.hi);
+    fields::put_big64(out, layout::PARENT_LO, a.parent.lo);
 }
 
 fn put_defunct_body(out: &mut [u8], d: DefunctLock)
-    requires { ⌜ 100 ≤ length (now out) ⌝ }
+    requires { ⌜ total (defunct .layout) ≤ length (now out) ⌝ }
     ensures { λ r. ⌜ now (out .exit) ≡ splice (now (out .entry)) 0 (encodeBy defunct d) ⌝ }
 {
     put_lock(out, d.lock);
-    fields::put_u64(out, 62, d.expires);
-    fields::put_u64(out, 70, d.broken);
-    fields::put_u32(out, 78, d.breaker);
-    fields::put_big64(out, 82, d.target.hi);
-    fields::put_big64(out, 90, d.target.lo);
-    fields::put_u16(out, 98, d.holder);
+    fields::put_u64(out, layout::EXPIRY, d.expires);
+    fields::put_u64(out, layout::BROKEN_AT, d.broken);
+    fields::put_u32(out, layout::BROKEN_BY, d.breaker);
+    fields::put_big64(out, layout::TARGET, d.target.hi);
+    fields::put_big64(out, layout::TARGET_LO, d.target.lo);
+    fields::put_u16(out, layout::HOLDER, d.holder);
 }
 
 fn put_head_body(out: &mut [u8], h: Head)
-    requires { ⌜ 16 ≤ length (now out) ⌝ }
+    requires { ⌜ total (head .layout) ≤ length (now out) ⌝ }
     ensures { λ r. ⌜ now (out .exit) ≡ splice (now (out .entry)) 0 (encodeBy head h) ⌝ }
 {
     fields::put_u64(out, 0, h.revision);
-    fields::put_u32(out, 8, h.expected);
-    fields::put_u16(out, 12, h.actives);
-    fields::put_u16(out, 14, h.defuncts);
+    fields::put_u32(out, layout::EXPECTED, h.expected);
+    fields::put_u16(out, layout::ACTIVES, h.actives);
+    fields::put_u16(out, layout::DEFUNCTS, h.defuncts);
 }
 
 // ---- records
@@ -131,42 +133,42 @@ fn put_frame(out: &mut [u8], at: usize, kind: u16)
     ensures { λ r. ⌜ now (out .exit) ≡ splice (now (out .entry)) at (bytesOf (little 2) (lengthOf kind) ++ bytesOf (little 2) kind) ⌝ }
 {
     fields::put_u16(out, at, kinds::length_of(kind));
-    fields::put_u16(out, at + 2, kind);
+    fields::put_u16(out, at + layout::LENGTH, kind);
 }
 
 pub fn put_head(out: &mut [u8], at: usize, h: Head)
     ensures { λ r. ⌜ now (out .exit) ≡ stored (now (out .entry)) at (recordOf 1 (encodeBy head h)) ⌝ }
 {
-    if !has_room(out.len(), at, 20) {
+    if !has_room(out.len(), at, layout::HEAD_RECORD) {
         return;
     }
-    put_frame(out, at, 1);
-    let b = at + 4;
-    let e = at + 20;
+    put_frame(out, at, kinds::HEAD);
+    let b = at + layout::FRAME;
+    let e = at + layout::HEAD_RECORD;
     put_head_body(&mut out[b..e], h);
 }
 
 pub fn put_active(out: &mut [u8], at: usize, a: ActiveLock)
     ensures { λ r. ⌜ now (out .exit) ≡ stored (now (out .entry)) at (recordOf 2 (encodeBy active a)) ⌝ }
 {
-    if !has_room(out.len(), at, 91) {
+    if !has_room(out.len(), at, layout::ACTIVE_RECORD) {
         return;
     }
-    put_frame(out, at, 2);
-    let b = at + 4;
-    let e = at + 91;
+    put_frame(out, at, kinds::ACTIVE);
+    let b = at + layout::FRAME;
+    let e = at + layout::ACTIVE_RECORD;
     put_active_body(&mut out[b..e], a);
 }
 
 pub fn put_defunct(out: &mut [u8], at: usize, d: DefunctLock)
     ensures { λ r. ⌜ now (out .exit) ≡ stored (now (out .entry)) at (recordOf 3 (encodeBy defunct d)) ⌝ }
 {
-    if !has_room(out.len(), at, 104) {
+    if !has_room(out.len(), at, layout::DEFUNCT_RECORD) {
         return;
     }
-    put_frame(out, at, 3);
-    let b = at + 4;
-    let e = at + 104;
+    put_frame(out, at, kinds::DEFUNCT);
+    let b = at + layout::FRAME;
+    let e = at + layout::DEFUNCT_RECORD;
     put_defunct_body(&mut out[b..e], d);
 }
 
@@ -174,9 +176,9 @@ pub fn put_defunct(out: &mut [u8], at: usize, d: DefunctLock)
 pub fn put_id(out: &mut [u8], at: usize, id: LockId)
     ensures { λ r. ⌜ now (out .exit) ≡ stored (now (out .entry)) at (idBytes id) ⌝ }
 {
-    if !has_room(out.len(), at, 16) {
+    if !has_room(out.len(), at, layout::ID) {
         return;
     }
     fields::put_big64(out, at, id.hi);
-    fields::put_big64(out, at + 8, id.lo);
+    fields::put_big64(out, at + layout::HALF, id.lo);
 }

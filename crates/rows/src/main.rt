@@ -8,14 +8,14 @@ use operations::answers::Answer;
 use operations::answers::Expiration;
 use operations::answers::Expired;
 use operations::answers::Inserted;
-use operations::answers::Renewal;
 use operations::answers::Renewed;
 use operations::answers::Replaced;
 use operations::delete;
 use operations::insert;
+use operations::insert_vehicle;
+use operations::numbers;
 use operations::renew;
 use operations::replace;
-use operations::vehicle;
 use state::ActiveLock;
 use state::Lock;
 use state::LockState;
@@ -49,36 +49,6 @@ fn ids_of(removed: [ActiveLock; LockState::ACTIVE], gone: usize) {
             number(k.lo);
         }
         i += 1;
-    }
-}
-
-// ---- document 01's numbers of the answers that the sheet speaks of; 99 for any other
-fn of_answer(a: Answer) -> u64 {
-    match a {
-        Answer::Done => 0,
-        Answer::DuplicateId(_) => 1,
-        Answer::DuplicateScope => 2,
-        Answer::CoverageConflict(_) => 7,
-        Answer::NoRoom => 13,
-        _ => 99,
-    }
-}
-
-fn of_renewal(a: Renewal) -> u64 {
-    match a {
-        Renewal::Done => 0,
-        Renewal::LockExpired => 9,
-        Renewal::RenewalNotExtension => 10,
-        _ => 99,
-    }
-}
-
-fn of_expiration(a: Expiration) -> u64 {
-    match a {
-        Expiration::Done => 0,
-        Expiration::Stale => 0,
-        Expiration::NotDue(_) => 0,
-        _ => 99,
     }
 }
 
@@ -134,7 +104,7 @@ fn a() -> LockState {
 fn inserted(name: &[u8], r: Inserted) {
     text(name);
     let told = r.told;
-    left(of_answer(told), r.state);
+    left(numbers::of_answer(told), r.state);
     match told {
         Answer::DuplicateId(i) => number(i.lo),
         Answer::CoverageConflict(i) => number(i.lo),
@@ -146,7 +116,7 @@ fn inserted(name: &[u8], r: Inserted) {
 fn renewed(name: &[u8], r: Renewed) {
     text(name);
     let told = r.told;
-    left(of_renewal(told), r.state);
+    left(numbers::of_renewal(told), r.state);
     text(b"\n");
 }
 
@@ -154,7 +124,7 @@ fn expired(name: &[u8], r: Expired) {
     text(name);
     let told = r.told;
     let answer = told.answer;
-    left(of_expiration(answer), r.state);
+    left(numbers::of_expiration(answer), r.state);
     if let Expiration::NotDue(t) = answer {
         text(b" not due");
         number(t);
@@ -168,7 +138,7 @@ fn replaced(name: &[u8], r: Replaced) {
     text(name);
     let told = r.told;
     let answer = told.answer;
-    left(of_answer(answer), r.state);
+    left(numbers::of_answer(answer), r.state);
     let removed = told.removed;
     ids_of(removed, told.gone);
     text(b"\n");
@@ -217,7 +187,7 @@ fn family(vehicle_id: u64, group_id: u64) -> LockState {
     let s = put(LockState::empty(), ecu5(3, 1));
     let t = put(s, group3(group_id, b"\x05\x06", 1));
     let list = [0u64, group_id];
-    let r = vehicle::insert_vehicle(t, whole(vehicle_id, 1), &list);
+    let r = insert_vehicle::insert_vehicle(t, whole(vehicle_id, 1), &list);
     r.state
 }
 
@@ -242,11 +212,13 @@ fn replacements() {
     );
 }
 
-// 64 locks on the groups 0 to 63, with empty sets: no two meet.
+const ACTIVES: u8 = LockState::ACTIVE as u8;
+
+// As many locks as there may be, each on a group, with empty sets: no two meet.
 fn full() -> LockState {
     let mut s = LockState::empty();
     let mut i: u8 = 0;
-    while i < 64 {
+    while i < ACTIVES {
         let g = lock(
             i as u64 + 1,
             ScopeKey::FunctionalGroup(i),

@@ -18,7 +18,7 @@ use Rattle.bits.proofs.Bits.{or-bit}
 use Rattle.coverage.specs.declared.LockCoverage.{LockCoverage}
 use Rattle.coverage.specs.Coverage.{wordOf, inSet, overlap, within}
 use Rattle.coverage.proofs.Laws.{overlap-sym, within-trans}
-use Rattle.rules.specs.Places.{coverAt}
+use Rattle.rules.specs.Code.{coverAt}
 use Rattle.rules.specs.Code.{union, clashAt, Before}
 
 -- ---- a set that has another's ECUs

@@ -53,7 +53,7 @@ meets→ends (suc n) t seen k h = go (findD t k) refl h (λ j u. meets→ends n 
     go (some d) e u r = step e (r (key (d .target)) (and-r (non (any (eqb k) seen)) (meetsNone n t (k ∷ seen) (key (d .target))) u))
 
 -- ---- and back to the tests: the entries met are no more than the table has
-chain : {t : List DefunctLock} {k : ℕ} → Ends t k → List ℕ
+unfoldable pub chain : {t : List DefunctLock} {k : ℕ} → Ends t k → List ℕ
 chain (done e) = []
 chain (step {k = k} e r) = k ∷ chain r
 
@@ -75,7 +75,7 @@ met {t} (step {k = k} {d = d} e r) {j} (List·Memᴰ·head q) =
     (step (ap (findD t) q ∙ e) r, omega arith, Memᴰ·cast (q ∙ sym (eqb-true (dkey d) k (w .1))) (Memᴰ·map dkey (w .0)))
 met {t} (step {k = k} {d = d} e r) {j} (List·Memᴰ·tail m) = let w = met r m in (w .0, omega (arith, w .1), w .2)
 
-chain-fresh : {t : List DefunctLock} {k : ℕ} (r : Ends t k) → Fresh (chain r)
+pub chain-fresh : {t : List DefunctLock} {k : ℕ} (r : Ends t k) → Fresh (chain r)
 unfolding count chain
 chain-fresh (done e) = tt
 chain-fresh (step e r) = (λ m. let w = met r m in omega (arith, w .1, same-count (w .0) (step e r) refl), chain-fresh r)

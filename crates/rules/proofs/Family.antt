@@ -28,7 +28,7 @@ use Rattle.state.specs.Locks.{akey, isVehicle, scopeCode, sameScope, blankActiv
 use Rattle.state.specs.Model.{Model}
 use Rattle.state.proofs.Laws.{vehicle-code}
 use Rattle.rules.specs.Rules.{findA, parentOf, ofParent, isSome, clash, rule2, rule3, rule4, rule5, rule6, rule7, rule8}
-use Rattle.rules.specs.Places.{idAt, keyAt, coverAt, Sought, has}
+use Rattle.rules.specs.Code.{idAt, keyAt, coverAt, Sought, has}
 use Rattle.rules.specs.Code.{Columns, clashAt, lowestFrom, activeRules}
 
 -- ---- tests

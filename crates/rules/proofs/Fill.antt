@@ -16,7 +16,7 @@ use Rattle.coverage.specs.declared.LockCoverage.{LockCoverage}
 use Rattle.state.specs.declared.ActiveLock.{ActiveLock}
 use Rattle.state.specs.declared.DefunctLock.{DefunctLock}
 use Rattle.state.specs.Locks.{scopeCode, blankActive, blankDefunct}
-use Rattle.rules.specs.Places.{idAt, keyAt, coverAt, Sorted, Rising}
+use Rattle.rules.specs.Code.{idAt, keyAt, coverAt, Sorted, Rising}
 use Rattle.rules.specs.Code.{Columns, Entries, Room}
 
 -- ---- one more place of a column

@@ -1,4 +1,4 @@
--- Laws of the rules that other crates cite (Ends, Sound), and those that the code's proofs do.
+-- Laws of the rules that other crates cite (Ends, Meeting, Sound), and those that the code's proofs do.
 pub mod Search
 pub mod Steps
 pub mod Scans
@@ -7,6 +7,7 @@ pub mod Family
 pub mod Fill
 pub mod Rings
 pub mod Ends
+pub mod Meeting
 pub mod Lowest
 pub mod Tidy
 pub mod Sound

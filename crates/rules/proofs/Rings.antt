@@ -22,7 +22,7 @@ use Rattle.state.specs.declared.DefunctLock.{DefunctLock}
 use Rattle.state.specs.Locks.{akey, dkey, blankActive, blankDefunct}
 use Rattle.state.specs.Model.{Model}
 use Rattle.rules.specs.Rules.{findD, hasD, rule1, rule9}
-use Rattle.rules.specs.Places.{keyAt, Sought, has, jump, times, allOut, LeadsOut}
+use Rattle.rules.specs.Code.{keyAt, Sought, has, jump, times, allOut, LeadsOut}
 use Rattle.rules.specs.Code.{Columns, Entries}
 use Rattle.rules.proofs.Steps.{jump-in, jump-out, times-out}
 use Rattle.rules.proofs.Family.{any-below}

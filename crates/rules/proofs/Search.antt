@@ -18,7 +18,7 @@ use Rattle.lists.proofs.Below.{any-of, any-at}
 use Rattle.ids.specs.declared.LockId.{LockId}
 use Rattle.ids.specs.Order.{key, sameId, beforeId}
 use Rattle.ids.proofs.Laws.{key-one}
-use Rattle.rules.specs.Places.{idAt, keyAt, Sought, Sorted, has, slotOf, Slotted}
+use Rattle.rules.specs.Code.{idAt, keyAt, Sought, Sorted, has, slotOf, Slotted}
 
 -- ---- halving
 module _ (at : ℕ → ℕ) (n k : ℕ) (s : Sorted at n) where

@@ -10,7 +10,7 @@ use lib.ListN.{length, getD}
 use borrow.Author.Tests.{ltb-true, ltb-false, leb-true, lt-ltb, le-ltb}
 use Rattle.lists.specs.Below.{allBelow}
 use Rattle.lists.proofs.Below.{all-of, all-at, all-same}
-use Rattle.rules.specs.Places.{jump, times, allOut, LeadsOut}
+use Rattle.rules.specs.Code.{jump, times, allOut, LeadsOut}
 
 pub jump-in : (l : List ℕ) (n i : ℕ) → i < n → jump l n i ≡ getD l i 0
 unfolding jump

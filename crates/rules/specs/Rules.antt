@@ -3,11 +3,12 @@
 use mathlib.Core.Bool.{Bool, true, false, cond}
 use mathlib.Core.List.{List, [], _∷_}
 use mathlib.Core.Option.{Option, none, some}
+use mathlib.Core.Path.{_≡_}
 use Prim.Native.Nat.{ℕ, zero, suc}
 use lib.Dec.{eqb, leb}
 use lib.ListN.{length, drop}
 use Rattle.lists.specs.Tests.{_and_, _or_, _imp_, non}
-use Rattle.lists.specs.Lists.{find, all, any, ascending}
+use Rattle.lists.specs.Lists.{find, all, any, Mem, Fresh, ascending}
 use Rattle.ids.specs.declared.LockId.{LockId}
 use Rattle.ids.specs.Order.{key}
 use Rattle.coverage.specs.declared.LockCoverage.{LockCoverage}
@@ -27,9 +28,6 @@ findA l k = find (λ a. eqb (akey a) k) l
 
 abbrev pub findD : List DefunctLock → ℕ → Option DefunctLock
 findD t k = find (λ d. eqb (dkey d) k) t
-
-abbrev pub hasA : List ActiveLock → ℕ → Bool
-hasA l k = any (λ a. eqb (akey a) k) l
 
 abbrev pub hasD : List DefunctLock → ℕ → Bool
 hasD t k = any (λ d. eqb (dkey d) k) t
@@ -125,8 +123,16 @@ unfoldable pub rule8 : Model → Bool
 rule8 m = pairs (λ a b. non (clash (a .lock) (b .lock))) m
 
 -- ---- "9 (added): following replacement_lock_id from any defunct entry through defunct entries meets no id twice."
--- From the id k the walk meets the ids of `seen` no second time: n bounds the entries still to pass, and a walk that
--- meets no id twice passes at most as many as there are.
+-- From the id k, through defunct entries, the ids ks are met, one after the other.
+pub data Meets (t : List DefunctLock) : ℕ → List ℕ → Type 0 where
+  here : {k : ℕ} → Meets t k []
+  on : {k : ℕ} {ks : List ℕ} {d : DefunctLock} → findD t k ≡ some d → Meets t (key (d .target)) ks → Meets t k (k ∷ ks)
+
+abbrev pub NoRing : Model → Type 0
+NoRing m = (d : DefunctLock) → Mem d (m .defunct) → (ks : List ℕ) → Meets (m .defunct) (dkey d) ks → Fresh ks
+
+-- The same as a test (proofs/Meeting.antt, `ring-free` and `free-ring`): from the id k the walk meets the ids of `seen` no
+-- second time; n bounds the entries still to pass, and a walk that meets no id twice passes at most as many as there are.
 unfoldable pub meetsNone : ℕ → List DefunctLock → List ℕ → ℕ → Bool
 meetsNone zero t seen k = non (hasD t k)
 meetsNone (suc n) t seen k = elim (findD t k) [ none ↦ true | some d ↦ non (any (eqb k) seen) and meetsNone n t (k ∷ seen) (key (d .target)) ]

@@ -9,7 +9,7 @@ ghost use mathlib.Core.Bool.{true};
 ghost use Rattle.lists.specs.Lists.{ascending};
 ghost use Rattle.state.specs.Locks.{akey};
 ghost use Rattle.state.specs.Model.{Model};
-ghost use Rattle.rules.specs.Places.{keyAt, Sorted};
+ghost use Rattle.rules.specs.Code.{keyAt, Sorted};
 ghost use Rattle.rules.specs.Code.{Columns, Room, lowestFrom, activeRules};
 
 // The lowest of these rules that is broken, 0 for none, from the columns of n locks: id, parent, coverage words and

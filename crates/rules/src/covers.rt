@@ -9,7 +9,7 @@ ghost use lib.Dec.{eqb};
 ghost use lib.ListN.{length, getD};
 ghost use Rattle.lists.specs.Tests.{non};
 ghost use Rattle.lists.specs.Below.{allBelow};
-ghost use Rattle.rules.specs.Places.{coverAt};
+ghost use Rattle.rules.specs.Code.{coverAt};
 ghost use Rattle.rules.specs.Code.{union, clashAt, Before};
 
 pub(crate) fn cover_at(words: &[u64], whole: &[bool], i: usize) -> LockCoverage

@@ -49,7 +49,7 @@ pub fn broken(s: LockState) -> Verdict
     }
     let mut list = [0u64; 2 * LockState::ACTIVE];
     let mut parents = [0u64; 2 * LockState::ACTIVE];
-    let mut words = [0u64; 256];
+    let mut words = [0u64; 4 * LockState::ACTIVE];
     let mut whole = [false; LockState::ACTIVE];
     let mut child = [false; LockState::ACTIVE];
     let mut kinds = [0usize; LockState::ACTIVE];
@@ -77,8 +77,8 @@ pub fn broken(s: LockState) -> Verdict
         subjects[i] = l.subject;
         i += 1;
     }
-    let mut gone = [0u64; 256];
-    let mut targets = [0u64; 256];
+    let mut gone = [0u64; 2 * LockState::DEFUNCT];
+    let mut targets = [0u64; 2 * LockState::DEFUNCT];
     let mut j: usize = 0;
     while j < m {
         let y = s.defunct[j];

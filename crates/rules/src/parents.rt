@@ -13,7 +13,7 @@ ghost use Rattle.lists.specs.Tests.{_and_, _imp_, non};
 ghost use Rattle.lists.specs.Below.{allBelow};
 ghost use Rattle.ids.specs.Order.{sameId};
 ghost use Rattle.coverage.specs.Coverage.{within};
-ghost use Rattle.rules.specs.Places.{idAt, keyAt, coverAt, Sorted, has};
+ghost use Rattle.rules.specs.Code.{idAt, keyAt, coverAt, Sorted, has};
 
 // Rules 3 and 4 at once: there is a vehicle lock, and every child's parent has its id.
 pub(crate) fn under(parents: &[u64], child: &[bool], n: usize, some: bool, id: LockId) -> bool

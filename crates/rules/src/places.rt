@@ -7,7 +7,7 @@ ghost use lib.ListN.{length};
 ghost use Rattle.lists.specs.Tests.{non};
 ghost use Rattle.lists.specs.Below.{allBelow};
 ghost use Rattle.ids.specs.Order.{key};
-ghost use Rattle.rules.specs.Places.{idAt, keyAt, Sought, Sorted, Rising, has, slotOf, Slotted};
+ghost use Rattle.rules.specs.Code.{idAt, keyAt, Sought, Sorted, Rising, has, slotOf, Slotted};
 
 pub(crate) fn id_at(list: &[u64], i: usize) -> LockId
     requires { ⌜ 2 * i + 1 < length (now list) ⌝ }

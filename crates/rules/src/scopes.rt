@@ -8,7 +8,7 @@ ghost use lib.ListN.{length, getD};
 ghost use Rattle.lists.specs.Tests.{non};
 ghost use Rattle.lists.specs.Below.{allBelow};
 ghost use Rattle.state.specs.Locks.{scopeCode};
-ghost use Rattle.rules.specs.Places.{Sought};
+ghost use Rattle.rules.specs.Code.{Sought};
 
 // A scope's number, which is below 513: the match tells that the number in a scope is a byte.
 pub(crate) fn number(k: ScopeKey) -> usize

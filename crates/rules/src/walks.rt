@@ -8,7 +8,7 @@ ghost use Prim.Native.Nat.{ℕ, _+_, _*_, _≤_, _<_};
 ghost use lib.Dec.{leb};
 ghost use lib.ListN.{length, getD};
 ghost use Rattle.lists.specs.Below.{allBelow};
-ghost use Rattle.rules.specs.Places.{keyAt, Sought, Sorted, Slotted, jump, LeadsOut};
+ghost use Rattle.rules.specs.Code.{keyAt, Sought, Sorted, Slotted, jump, LeadsOut};
 
 // For each of n places the place that its target has; n where the target is no entry.
 pub(crate) fn steps(

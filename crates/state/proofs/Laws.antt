@@ -16,11 +16,10 @@ use Rattle.coverage.specs.declared.LockCoverage.{LockCoverage}
 use Rattle.coverage.specs.Coverage.{covers}
 use Rattle.state.specs.declared.ScopeKey.{ScopeKey}
 use Rattle.state.specs.declared.ScopeKey.the-variants.{Vehicle, Ecu, FunctionalGroup}
-use Rattle.state.specs.declared.Lock.{Lock}
 use Rattle.state.specs.declared.ActiveLock.{ActiveLock}
 use Rattle.state.specs.declared.DefunctLock.{DefunctLock}
 use Rattle.state.specs.declared.LockState.{LockState}
-use Rattle.state.specs.Locks.{isVehicle, ecuIn, scopeCode, sameScope, blankActive, blankDefunct, normalCoverage, normal}
+use Rattle.state.specs.Locks.{isVehicle, ecuIn, scopeCode, sameScope, blankActive, blankDefunct, withCoverage, normalCoverage, normal}
 use Rattle.state.specs.Model.{Model, modelOf, stateOf, Tidy}
 
 -- ---- scopes
@@ -62,14 +61,11 @@ ecu-is c k n r e f = rw e f
 
 -- ---- the normal form
 module _ (x : ActiveLock) (c : LockCoverage) (e : c ≡ normalCoverage (x .lock .coverage)) where
-  abbrev lockWith : Lock
-  lockWith = record { id = x .lock .id; coverage = c; principal = x .lock .principal; metadata = x .lock .metadata; subject = x .lock .subject; scope = x .lock .scope; exclusive = x .lock .exclusive }
-
-  pub normal-child : x .child ≡ true → record { lock = lockWith; parent = x .parent; expires = x .expires; child = true } ≡ normal x
+  pub normal-child : x .child ≡ true → record { lock = withCoverage c (x .lock); parent = x .parent; expires = x .expires; child = true } ≡ normal x
   unfolding normal
   normal-child t = rw (t, e)
 
-  pub normal-lone : x .child ≡ false → record { lock = lockWith; parent = noId; expires = x .expires; child = false } ≡ normal x
+  pub normal-lone : x .child ≡ false → record { lock = withCoverage c (x .lock); parent = noId; expires = x .expires; child = false } ≡ normal x
   unfolding normal
   normal-lone t = rw (t, e)
 

@@ -25,9 +25,9 @@ isGroup (FunctionalGroup n) = true
 
 -- the scope is one ECU, and the coverage has it
 unfoldable pub ecuIn : LockCoverage → ScopeKey → Bool
-ecuIn c Vehicle = false
-ecuIn c (Ecu n) = covers c n
-ecuIn c (FunctionalGroup n) = false
+ecuIn coverage Vehicle = false
+ecuIn coverage (Ecu n) = covers coverage n
+ecuIn coverage (FunctionalGroup n) = false
 
 -- a number for each scope, no two alike (proofs/Laws.antt, scope-one)
 unfoldable pub scopeCode : ScopeKey → ℕ
@@ -46,14 +46,25 @@ abbrev pub dkey : DefunctLock → ℕ
 dkey d = key (d .lock .id)
 
 unfoldable pub hasId : LockId → ActiveLock → Bool
-hasId i a = eqb (akey a) (key i)
+hasId id lock = eqb (akey lock) (key id)
 
 unfoldable pub hasIdD : LockId → DefunctLock → Bool
-hasIdD i d = eqb (dkey d) (key i)
+hasIdD id broken = eqb (dkey broken) (key id)
+
+-- ---- makers: the only places of the definitions that list a lock's parts
+-- a lock of these four parts, the others zero
+abbrev pub makeLock : LockId → ScopeKey → LockCoverage → ℕ → Lock
+makeLock id scope coverage subject = record { id = id; coverage = coverage; principal = 0; metadata = 0; subject = subject; scope = scope; exclusive = false }
+
+abbrev pub withCoverage : LockCoverage → Lock → Lock
+withCoverage coverage lock = record { id = lock .id; coverage = coverage; principal = lock .principal; metadata = lock .metadata; subject = lock .subject; scope = lock .scope; exclusive = lock .exclusive }
+
+abbrev pub withMetadata : ℕ → Lock → Lock
+withMetadata metadata lock = record { id = lock .id; coverage = lock .coverage; principal = lock .principal; metadata = metadata; subject = lock .subject; scope = lock .scope; exclusive = lock .exclusive }
 
 -- ---- "unused places are blank": every part zero
 abbrev pub blankLock : Lock
-blankLock = record { id = noId; coverage = noCoverage; principal = 0; metadata = 0; subject = 0; scope = Vehicle; exclusive = false }
+blankLock = makeLock noId Vehicle noCoverage 0
 
 unfoldable pub blankActive : ActiveLock
 blankActive = record { lock = blankLock; parent = noId; expires = 0; child = false }
@@ -64,22 +75,13 @@ blankDefunct = record { lock = blankLock; target = noId; expires = 0; broken = 0
 -- ---- "in a lock handed to an operation directly, such parts are taken as zero": the set of a whole vehicle, the parent
 -- of a lock that has none
 abbrev pub normalCoverage : LockCoverage → LockCoverage
-normalCoverage c = cond (c .whole) wholeVehicle c
+normalCoverage coverage = cond (coverage .whole) wholeVehicle coverage
 
 unfoldable pub normal : ActiveLock → ActiveLock
-normal x =
+normal given =
     record {
-      lock =
-          record {
-            id = x .lock .id;
-            coverage = normalCoverage (x .lock .coverage);
-            principal = x .lock .principal;
-            metadata = x .lock .metadata;
-            subject = x .lock .subject;
-            scope = x .lock .scope;
-            exclusive = x .lock .exclusive;
-          };
-      parent = cond (x .child) (x .parent) noId;
-      expires = x .expires;
-      child = x .child;
+      lock = withCoverage (normalCoverage (given .lock .coverage)) (given .lock);
+      parent = cond (given .child) (given .parent) noId;
+      expires = given .expires;
+      child = given .child;
     }

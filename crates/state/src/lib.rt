@@ -13,60 +13,71 @@ pub enum ScopeKey {
     FunctionalGroup(u8),
 }
 
-// What an active and a defunct lock share: document 01's "lock start".
+// What an active and a defunct lock share: document 01's "lock start". A field has the original's name unless it says
+// another; a name of one word stays one in the definitions, which would have to quote `broken_at`.
 // Large fields first: the compiler keeps the declared order.
 pub struct Lock {
     pub id: LockId,
     pub coverage: LockCoverage,
+    // principal: who asked, in whole; an opaque number
     pub principal: u32,
     pub metadata: u32,
+    // principal's subject, which owners are compared by
     pub subject: u16,
     pub scope: ScopeKey,
     pub exclusive: bool,
 }
 
-// parent: the original's parent_vehicle_lock_id; child says whether there is one. expires: its expires_at.
+// The original's fields of the lock itself stand in `lock`.
 pub struct ActiveLock {
     pub lock: Lock,
+    // parent_vehicle_lock_id, where child says that there is one; else zero
     pub parent: LockId,
+    // expires_at
     pub expires: u64,
     pub child: bool,
 }
 
-// target, holder: the original's replacement_lock_id, replacement_holder; expires: original_expires_at;
-// broken, breaker: broken_at, broken_by.
 pub struct DefunctLock {
     pub lock: Lock,
+    // replacement_lock_id
     pub target: LockId,
+    // original_expires_at
     pub expires: u64,
+    // broken_at
     pub broken: u64,
+    // broken_by
     pub breaker: u32,
+    // replacement_holder
     pub holder: u16,
 }
 
-// Each list stands in the first places of its array, ascending by id; unused places are blank.
+// Each list stands in the first places of its array, ascending by id; unused places are blank. The original's two other
+// maps, active_by_scope and children_by_vehicle, are read off the active locks.
 pub struct LockState {
     pub revision: u64,
+    // active_by_id
     pub active: [ActiveLock; LockState::ACTIVE],
     pub actives: usize,
+    // defunct_by_id
     pub defunct: [DefunctLock; LockState::DEFUNCT],
     pub defuncts: usize,
 }
 
-pub fn is_vehicle(k: ScopeKey) -> bool
-    ensures { λ r. ⌜ r ≡ isVehicle k ⌝ }
+pub fn is_vehicle(scope: ScopeKey) -> bool
+    ensures { λ r. ⌜ r ≡ isVehicle scope ⌝ }
 {
-    match k {
+    match scope {
         ScopeKey::Vehicle => true,
         ScopeKey::Ecu(_) => false,
         ScopeKey::FunctionalGroup(_) => false,
     }
 }
 
-pub fn is_group(k: ScopeKey) -> bool
-    ensures { λ r. ⌜ r ≡ isGroup k ⌝ }
+pub fn is_group(scope: ScopeKey) -> bool
+    ensures { λ r. ⌜ r ≡ isGroup scope ⌝ }
 {
-    match k {
+    match scope {
         ScopeKey::Vehicle => false,
         ScopeKey::Ecu(_) => false,
         ScopeKey::FunctionalGroup(_) => true,
@@ -74,21 +85,21 @@ pub fn is_group(k: ScopeKey) -> bool
 }
 
 // Whether the scope is one ECU and the coverage has it.
-pub fn ecu_in(c: LockCoverage, k: ScopeKey) -> bool
-    ensures { λ r. ⌜ r ≡ ecuIn c k ⌝ }
+pub fn ecu_in(coverage: LockCoverage, scope: ScopeKey) -> bool
+    ensures { λ r. ⌜ r ≡ ecuIn coverage scope ⌝ }
 {
-    match k {
+    match scope {
         ScopeKey::Vehicle => false,
-        ScopeKey::Ecu(e) => c.contains_ecu(e),
+        ScopeKey::Ecu(e) => coverage.contains_ecu(e),
         ScopeKey::FunctionalGroup(_) => false,
     }
 }
 
 // A number for each scope, so that scopes compare as numbers: 0 for the vehicle.
-pub fn scope_code(k: ScopeKey) -> u64
-    ensures { λ r. ⌜ r ≡ scopeCode k ⌝ }
+pub fn scope_code(scope: ScopeKey) -> u64
+    ensures { λ r. ⌜ r ≡ scopeCode scope ⌝ }
 {
-    match k {
+    match scope {
         ScopeKey::Vehicle => 0,
         ScopeKey::Ecu(n) => n as u64 * 2 + 1,
         ScopeKey::FunctionalGroup(n) => n as u64 * 2 + 2,
@@ -146,48 +157,48 @@ pub fn blank_defunct() -> DefunctLock
 }
 
 // The whole vehicle has no set.
-fn normal_coverage(c: LockCoverage) -> LockCoverage
-    ensures { λ r. ⌜ r ≡ normalCoverage c ⌝ }
+fn normal_coverage(coverage: LockCoverage) -> LockCoverage
+    ensures { λ r. ⌜ r ≡ normalCoverage coverage ⌝ }
 {
-    if c.whole {
+    if coverage.whole {
         return LockCoverage::vehicle();
     }
-    c
+    coverage
 }
 
 // A lock handed to an operation directly: parts that don't apply are taken as zero.
-pub fn normal_form(x: ActiveLock) -> ActiveLock
-    ensures { λ r. ⌜ r ≡ normal x ⌝ }
+pub fn normal_form(given: ActiveLock) -> ActiveLock
+    ensures { λ r. ⌜ r ≡ normal given ⌝ }
 {
-    let mut l = x.lock;
-    l.coverage = normal_coverage(x.lock.coverage);
-    let p = x.parent;
-    if x.child {
+    let mut lock = given.lock;
+    lock.coverage = normal_coverage(given.lock.coverage);
+    let parent = given.parent;
+    if given.child {
         return ActiveLock {
-            lock: l,
-            parent: p,
-            expires: x.expires,
+            lock,
+            parent,
+            expires: given.expires,
             child: true,
         };
     }
     ActiveLock {
-        lock: l,
+        lock,
         parent: LockId { hi: 0, lo: 0 },
-        expires: x.expires,
+        expires: given.expires,
         child: false,
     }
 }
 
-pub fn has_id(id: LockId, a: ActiveLock) -> bool
-    ensures { λ r. ⌜ r ≡ hasId id a ⌝ }
+pub fn has_id(id: LockId, lock: ActiveLock) -> bool
+    ensures { λ r. ⌜ r ≡ hasId id lock ⌝ }
 {
-    ids::same(a.lock.id, id)
+    ids::same(lock.lock.id, id)
 }
 
-pub fn has_id_defunct(id: LockId, d: DefunctLock) -> bool
-    ensures { λ r. ⌜ r ≡ hasIdD id d ⌝ }
+pub fn has_id_defunct(id: LockId, broken: DefunctLock) -> bool
+    ensures { λ r. ⌜ r ≡ hasIdD id broken ⌝ }
 {
-    ids::same(d.lock.id, id)
+    ids::same(broken.lock.id, id)
 }
 
 impl LockState {
@@ -198,13 +209,13 @@ impl LockState {
     pub fn empty() -> LockState
         ensures { λ r. ⌜ r ≡ stateOf emptyModel ⌝ }
     {
-        let a = blank_active();
-        let d = blank_defunct();
+        let active = blank_active();
+        let defunct = blank_defunct();
         LockState {
             revision: 0,
-            active: [a; LockState::ACTIVE],
+            active: [active; LockState::ACTIVE],
             actives: 0,
-            defunct: [d; LockState::DEFUNCT],
+            defunct: [defunct; LockState::DEFUNCT],
             defuncts: 0,
         }
     }

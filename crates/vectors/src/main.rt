@@ -1,7 +1,7 @@
 // vectors: replays the list of cases on standard input (oracle/vectors/README.md): an image, a feed record, and what
 // applying the record at place 0 gives. Prints a line for each way in which a case differs, and how often each answer came.
 // SPDX-License-Identifier: Apache-2.0
-use feed::events::Event;
+use feed::events;
 use feed::events::Step;
 use feed::numbers;
 use image::Reading;
@@ -11,8 +11,10 @@ use image::read;
 use image::write;
 use libc::STDIN_FILENO;
 use libc::STDOUT_FILENO;
+use records::layout;
 use records::writing;
 use state::ActiveLock;
+use state::LockState;
 ghost use Prim.Native.Nat.{_≤_};
 ghost use lib.ListN.{length};
 
@@ -101,10 +103,10 @@ fn records_after(list: &[u8], last: Part) -> Part
     if !w.good {
         return none();
     }
-    if 64 < n {
+    if LOCKS < n {
         return none();
     }
-    bytes_at(list, e, n as usize * 91)
+    bytes_at(list, e, n as usize * layout::ACTIVE_RECORD)
 }
 
 // ---- what is printed
@@ -213,29 +215,9 @@ fn same(a: &[u8], n: usize, b: &[u8]) -> bool {
     true
 }
 
-// Whether the record was applied: of those, and of no others, the list has a next image.
-fn applied(e: Event) -> bool {
-    match e {
-        Event::UnsoundState(_) => false,
-        Event::Torn(_) => false,
-        Event::BadKind(_) => false,
-        Event::BadField(_) => false,
-        Event::Repeat(_) => false,
-        Event::Ahead(_) => false,
-        Event::Inserted(_) => true,
-        Event::VehicleInserted(_) => true,
-        Event::Renewed(_) => true,
-        Event::Deleted(_) => true,
-        Event::ExpirationBegun(_) => true,
-        Event::Replaced(_) => true,
-        Event::Acknowledged(_) => true,
-        Event::DefunctsExpired(_) => true,
-    }
-}
-
 // Whether the spare, written, has the list's bytes.
 fn left(spare: Spare, bytes: &[u8]) -> bool {
-    let mut out = [0u8; 19156];
+    let mut out = [0u8; image::LONGEST];
     match write::write_image(spare, &mut out) {
         Writing::Done(n) => same(&out, n, bytes),
         Writing::UnsoundState(_) => false,
@@ -243,36 +225,41 @@ fn left(spare: Spare, bytes: &[u8]) -> bool {
     }
 }
 
-// Where the record wasn't applied, the spare is still the image and the list has no next one.
+// The list has a next image of the records that were applied, and of no others: of those the spare is still the image.
 fn kept<'a>(s: Step, image: &'a [u8], next: &'a [u8]) -> bool {
     let told = s.told;
     let event = told.event;
     let spare = s.spare;
-    if applied(event) {
+    if events::is_applied(event) {
         return left(spare, next);
     }
     left(spare, image) & (next.len() == 0)
 }
 
-fn put_removed(out: &mut [u8], locks: [ActiveLock; 64], n: usize)
+// The most locks that a list has, and their bytes.
+const LOCKS: u64 = LockState::ACTIVE as u64;
+
+const REMOVED: usize = LockState::ACTIVE * layout::ACTIVE_RECORD;
+
+fn put_removed(out: &mut [u8], locks: [ActiveLock; LockState::ACTIVE], n: usize)
     requires { ⌜ n ≤ 64 ⌝ }
 {
     let mut i: usize = 0;
     while i < n {
         let a = locks[i];
-        writing::put_active(out, i * 91, a);
+        writing::put_active(out, i * layout::ACTIVE_RECORD, a);
         i += 1;
     }
 }
 
 // Whether the removed locks, written, are the list's bytes.
-fn gone(locks: [ActiveLock; 64], n: usize, bytes: &[u8]) -> bool {
-    if 64 < n {
+fn gone(locks: [ActiveLock; LockState::ACTIVE], n: usize, bytes: &[u8]) -> bool {
+    if LockState::ACTIVE < n {
         return false;
     }
-    let mut out = [0u8; 5824];
+    let mut out = [0u8; REMOVED];
     put_removed(&mut out, locks, n);
-    same(&out, n * 91, bytes)
+    same(&out, n * layout::ACTIVE_RECORD, bytes)
 }
 
 fn stepped<'a>(

@@ -7,7 +7,9 @@
 //! clones its state inside; states are cloned, arguments made and results dropped outside of the
 //! timed part. Batches of both alternate, so that other work on the machine meets both alike.
 //!
+//! ```text
 //! bench [MILLISECONDS A CELL]
+//! ```
 
 use std::{
     env,
@@ -18,7 +20,7 @@ use std::{
 };
 
 use cablegorse::{
-    Spare,
+    Replica,
     library::{self, EXPIRED_LIMIT, IMAGE_LIMIT, REMOVED_LIMIT},
 };
 use oracle::{
@@ -256,7 +258,7 @@ fn feeds(time: Duration) {
         let mut ends = (0, 0);
         let start = Instant::now();
         while start.elapsed() < time {
-            let mut spare = Spare::empty();
+            let mut spare = Replica::empty();
             let mut at = 0;
             let clock = Instant::now();
             while at < bytes.len() {

@@ -1,7 +1,9 @@
 // SPDX-License-Identifier: Apache-2.0
 //! Writes first inputs for the fuzzer: small sound states with a record, a read or a deletion.
 //!
+//! ```text
 //! corpus FOLDER [INPUTS]
+//! ```
 
 use std::{env, fs, path::PathBuf, process::ExitCode};
 

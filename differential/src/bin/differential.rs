@@ -1,6 +1,7 @@
 // SPDX-License-Identifier: Apache-2.0
 //! The static library beside the original, by seeds. A difference ends the run with the input.
 //!
+//! ```text
 //! differential [OPERATIONS] [SEED] [THREADS]   random states until so many operations were run,
 //!                                              a part of the tiny universe, every byte of a
 //!                                              rich image; fails on an answer seldom seen
@@ -8,6 +9,7 @@
 //! differential tiny [STEP]                     every STEP-th state of the tiny universe
 //! differential replay PROGRAM [FEEDS] [SEED]   what the program prints, beside the judge
 //! differential spare PROGRAM [FEEDS] [SEED]    the same from a base image, and the new image
+//! ```
 
 use std::{
     env, fs,

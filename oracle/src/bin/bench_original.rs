@@ -3,7 +3,9 @@
 //! arguments made and results dropped outside of the timed part; the original's own clone of its
 //! state is inside, since it is part of every operation. The clone alone stands in its own row.
 //!
+//! ```text
 //! bench_original [MILLISECONDS A CELL]
+//! ```
 
 use std::{
     env,

@@ -3,8 +3,10 @@
 //! states stay sound, images come back, the restated document 01 agrees, and every answer is
 //! seen.
 //!
+//! ```text
 //! selfcheck [STATES] [SEED] [OPERATIONS A STATE]
 //! selfcheck small [STEP]    every STEP-th state of the tiny universe, every operation on it
+//! ```
 
 use std::{collections::BTreeMap, env, process::ExitCode};
 

@@ -1,5 +1,5 @@
 // SPDX-License-Identifier: Apache-2.0
-//! Writes the sample of the oracle's answers: vectors [FILE], ../crates/vectors/stdin if not given.
+//! Writes the sample of the oracle's answers: `vectors [FILE]`, ../crates/vectors/stdin if not given.
 
 use std::{collections::BTreeMap, env, fs, process::ExitCode};
 

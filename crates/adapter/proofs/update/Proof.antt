@@ -16,15 +16,12 @@ both : (s : LockState) (g : ℕ) (t : Update) (n : ℕ) → t ≡ prepareUpdateO
 unfolding updateOn
 both s g t n e f = λ i. updated (e i) ((f ∙ ap (λ u. heldAfter u g) e) i)
 
--- src/lib.rt:130:9
 prepare-runtime-update-requires : tie.Need-prepare-runtime-update-requires
 prepare-runtime-update-requires c κs = search needs
 
--- src/lib.rt:133:21
 held-after-requires : tie.Need-held-after-requires
 held-after-requires c κs = search needs
 
--- src/lib.rt:127:1
 returns : tie.Need-returns
 returns c = search (both, needs)
 

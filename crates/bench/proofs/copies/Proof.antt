@@ -15,43 +15,33 @@ Inv-loop bytes₀ out₀ n total₀ i₀ bytes out total i = (i ≤ n) × ((leng
 abbrev μ-loop : tie.MeasureT-loop
 μ-loop bytes₀ out₀ n total₀ i₀ bytes out total i = n - i
 
--- src/main.rt:221:5
 loop-holds : tie.Need-loop-holds Inv-loop μ-loop
 loop-holds c = search needs
 
--- src/main.rt:222:13
 copy-once-requires : tie.Need-copy-once-requires Inv-loop μ-loop
 copy-once-requires c κs = search needs
 
--- src/main.rt:223:51
 wrapping-add-u64-requires : tie.Need-wrapping-add-u64-requires Inv-loop μ-loop
 wrapping-add-u64-requires c κs = search needs
 
--- src/main.rt:223:9
 wrapping-add-u64-requires-2 : tie.Need-wrapping-add-u64-requires-2 Inv-loop μ-loop
 wrapping-add-u64-requires-2 c κs = search needs
 
--- src/main.rt:224:9
 add-i : tie.Need-add-i Inv-loop μ-loop
 add-i c = search needs
 
--- src/main.rt:221:5
 loop-less : tie.Need-loop-less Inv-loop μ-loop
 loop-less c = search needs
 
--- src/main.rt:221:5
 loop-again : tie.Need-loop-again Inv-loop μ-loop
 loop-again c = search needs
 
--- src/main.rt:218:1
 same-length : tie.Need-same-length Inv-loop μ-loop
 same-length c = search needs
 
--- src/main.rt:218:1
 same-length-2 : tie.Need-same-length-2 Inv-loop μ-loop
 same-length-2 c = search needs
 
--- src/main.rt:218:1
 returns : tie.Need-returns Inv-loop μ-loop
 returns c = search needs
 

@@ -15,35 +15,27 @@ Inv-loop bytes₀ n total₀ i₀ bytes total i = (i ≤ n) × (length bytes ≡
 abbrev μ-loop : tie.MeasureT-loop
 μ-loop bytes₀ n total₀ i₀ bytes total i = n - i
 
--- src/main.rt:159:5
 loop-holds : tie.Need-loop-holds Inv-loop μ-loop
 loop-holds c = search needs
 
--- src/main.rt:160:51
 read-once-requires : tie.Need-read-once-requires Inv-loop μ-loop
 read-once-requires c κs = search needs
 
--- src/main.rt:160:9
 wrapping-add-u64-requires : tie.Need-wrapping-add-u64-requires Inv-loop μ-loop
 wrapping-add-u64-requires c κs = search needs
 
--- src/main.rt:161:9
 add-i : tie.Need-add-i Inv-loop μ-loop
 add-i c = search needs
 
--- src/main.rt:159:5
 loop-less : tie.Need-loop-less Inv-loop μ-loop
 loop-less c = search needs
 
--- src/main.rt:159:5
 loop-again : tie.Need-loop-again Inv-loop μ-loop
 loop-again c = search needs
 
--- src/main.rt:156:1
 same-length : tie.Need-same-length Inv-loop μ-loop
 same-length c = search needs
 
--- src/main.rt:156:1
 returns : tie.Need-returns Inv-loop μ-loop
 returns c = search needs
 

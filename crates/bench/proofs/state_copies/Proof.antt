@@ -14,47 +14,36 @@ Inv-loop n pool₀ total₀ i₀ pool total i = (i ≤ n) × (length pool ≡ 2)
 abbrev μ-loop : tie.MeasureT-loop
 μ-loop n pool₀ total₀ i₀ pool total i = n - i
 
--- src/main.rt:234:5
 loop-holds : tie.Need-loop-holds Inv-loop μ-loop
 loop-holds c = search needs
 
--- src/main.rt:236:17
 mul-t : tie.Need-mul-t Inv-loop μ-loop
 mul-t c = search needs
 
--- src/main.rt:236:17
 array-copy-out-t : tie.Need-array-copy-out-t Inv-loop μ-loop
 array-copy-out-t c = search needs
 
--- src/main.rt:237:14
 sub-pool : tie.Need-sub-pool Inv-loop μ-loop
 sub-pool c = search needs
 
--- src/main.rt:237:9
 mul-pool : tie.Need-mul-pool Inv-loop μ-loop
 mul-pool c = search needs
 
--- src/main.rt:237:9
 array-set-from-pool : tie.Need-array-set-from-pool Inv-loop μ-loop
 array-set-from-pool c = search needs
 
--- src/main.rt:238:9
 wrapping-add-u64-requires : tie.Need-wrapping-add-u64-requires Inv-loop μ-loop
 wrapping-add-u64-requires c κs = search needs
 
--- src/main.rt:239:9
 add-i : tie.Need-add-i Inv-loop μ-loop
 add-i c = search needs
 
--- src/main.rt:234:5
 loop-less : tie.Need-loop-less Inv-loop μ-loop
 loop-less c = search needs
 
--- src/main.rt:234:5
 loop-again : tie.Need-loop-again Inv-loop μ-loop
 loop-again c = search needs
 
--- src/main.rt:230:1
 returns : tie.Need-returns Inv-loop μ-loop
 returns c = search needs
 

@@ -15,43 +15,33 @@ Inv-loop out₀ n a₀ total₀ i₀ out a total i = (i ≤ n) × (length out �
 abbrev μ-loop : tie.MeasureT-loop
 μ-loop out₀ n a₀ total₀ i₀ out a total i = n - i
 
--- src/main.rt:187:5
 loop-holds : tie.Need-loop-holds Inv-loop μ-loop
 loop-holds c = search needs
 
--- src/main.rt:188:22
 cast-a : tie.Need-cast-a Inv-loop μ-loop
 cast-a c = search needs
 
--- src/main.rt:191:40
 write-once-requires : tie.Need-write-once-requires Inv-loop μ-loop
 write-once-requires c κs = search needs
 
--- src/main.rt:191:13
 wrapping-add-u64-requires : tie.Need-wrapping-add-u64-requires Inv-loop μ-loop
 wrapping-add-u64-requires c κs = search needs
 
--- src/main.rt:189:9
 wrapping-add-u64-requires-2 : tie.Need-wrapping-add-u64-requires-2 Inv-loop μ-loop
 wrapping-add-u64-requires-2 c κs = search needs
 
--- src/main.rt:193:9
 add-i : tie.Need-add-i Inv-loop μ-loop
 add-i c = search needs
 
--- src/main.rt:187:5
 loop-less : tie.Need-loop-less Inv-loop μ-loop
 loop-less c = search needs
 
--- src/main.rt:187:5
 loop-again : tie.Need-loop-again Inv-loop μ-loop
 loop-again c = search needs
 
--- src/main.rt:180:1
 same-length : tie.Need-same-length Inv-loop μ-loop
 same-length c = search needs
 
--- src/main.rt:180:1
 returns : tie.Need-returns Inv-loop μ-loop
 returns c = search needs
 

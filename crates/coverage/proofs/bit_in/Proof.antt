@@ -9,19 +9,15 @@ use Rattle.coverage.proofs.bit_in.Tie as tie
 use Rattle.coverage.proofs.bit_in.Reads as reads
 use Rattle.coverage.proofs.bit_in.Lts as lts
 
--- src/lib.rt:20:30
 cast-result : tie.Need-cast-result
 cast-result c = search needs
 
--- src/lib.rt:20:21
 shl-result : tie.Need-shl-result
 shl-result c = search needs
 
--- src/lib.rt:20:9
 returns : tie.Need-returns
 returns c = bit-set (c .before .args .w) _ (omega arith) ∙ sym (cond-true _ _ _ (eq-eqb _ _ (c .if1 .taken)))
 
--- src/lib.rt:16:1
 returns-2 : tie.Need-returns-2
 returns-2 c = sym (cond-false _ _ _ (ne-eqb _ _ (c .if1 .left)))
 

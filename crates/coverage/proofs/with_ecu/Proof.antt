@@ -6,23 +6,18 @@ use Rattle.coverage.proofs.with_ecu.Reads as reads
 use Rattle.coverage.proofs.with_ecu.Lts as lts
 use Rattle.coverage.proofs.bit_in.Reads as bit-in-reads
 
--- src/lib.rt:30:13
 bit-in-requires : tie.Need-bit-in-requires
 bit-in-requires c κs = search needs
 
--- src/lib.rt:31:13
 bit-in-requires-2 : tie.Need-bit-in-requires-2
 bit-in-requires-2 c κs = search needs
 
--- src/lib.rt:32:13
 bit-in-requires-3 : tie.Need-bit-in-requires-3
 bit-in-requires-3 c κs = search needs
 
--- src/lib.rt:33:13
 bit-in-requires-4 : tie.Need-bit-in-requires-4
 bit-in-requires-4 c κs = search needs
 
--- src/lib.rt:26:1
 returns : tie.Need-returns
 returns c = rw (c .before .before .before .bit-in .ensures, c .before .before .bit-in2 .ensures, c .before .bit-in3 .ensures, c .bit-in4 .ensures)
 

@@ -1,42 +1,42 @@
 use mathlib.Core.Path.{_∙_}
 use denote.Ref.{now}
+use Rattle.feed.specs.Feed.{numbered}
 use Rattle.feed.proofs.Stepping.{turn-now, turn-ahead, turn-repeat}
 use borrow.Author.Needs.{needs}
 use Rattle.feed.proofs.take_turn.Statement.{statement}
 use Rattle.feed.proofs.take_turn.Tie as tie
 use Rattle.feed.proofs.take_turn.Reads as reads
 use Rattle.feed.proofs.take_turn.Lts as lts
-use Rattle.feed.proofs.applying.apply.Reads as apply-reads
+use Rattle.feed.proofs.apply.Reads as apply-reads
 use Rattle.feed.proofs.events.still.Reads as still-reads
 use Rattle.feed.proofs.turns.distance.Reads as distance-reads
 
--- src/lib.rt:26:9
 distance-requires : tie.Need-distance-requires
 distance-requires c κs = search needs
 
--- src/lib.rt:28:9
 apply-requires : tie.Need-apply-requires
 apply-requires c κs = search needs
 
--- src/lib.rt:28:9
 returns : tie.Need-returns
-returns c = let a = c .before .before .before .before .args in c .apply .ensures ∙ turn-now (a .spare) (now (a .body)) (a .sequence) (a .next) (a .request) _ (c .before .before .distance .ensures) (c .before .if1 .taken)
+returns c =
+    let a = c .before .before .before .before .before .args in
+    c .apply .ensures ∙ turn-now (a .spare) (a .placed .frame .next) (numbered (a .placed) (now (a .body))) _ (c .before .before .distance .ensures) (c .before .if1 .taken)
 
--- src/lib.rt:31:9
 still-requires : tie.Need-still-requires
 still-requires c κs = search needs
 
--- src/lib.rt:31:9
 returns-2 : tie.Need-returns-2
-returns-2 c = let a = c .before .before .before .before .before .args in c .still .ensures ∙ turn-ahead (a .spare) (now (a .body)) (a .sequence) (a .next) (a .request) _ (c .before .before .before .distance .ensures) (c .before .before .if1 .left) (c .before .if2 .taken)
+returns-2 c =
+    let a = c .before .before .before .before .before .before .args in
+    c .still .ensures ∙ turn-ahead (a .spare) (a .placed .frame .next) (numbered (a .placed) (now (a .body))) _ (c .before .before .before .distance .ensures) (c .before .before .if1 .left) (c .before .if2 .taken)
 
--- src/lib.rt:33:5
 still-requires-2 : tie.Need-still-requires-2
 still-requires-2 c κs = search needs
 
--- src/lib.rt:23:1
 returns-3 : tie.Need-returns-3
-returns-3 c = let a = c .before .before .before .before .before .args in c .still2 .ensures ∙ turn-repeat (a .spare) (now (a .body)) (a .sequence) (a .next) (a .request) _ (c .before .before .before .distance .ensures) (c .before .before .if1 .left) (c .before .if2 .left)
+returns-3 c =
+    let a = c .before .before .before .before .before .before .args in
+    c .still2 .ensures ∙ turn-repeat (a .spare) (a .placed .frame .next) (numbered (a .placed) (now (a .body))) _ (c .before .before .before .distance .ensures) (c .before .before .if1 .left) (c .before .if2 .left)
 
 pub take-turn-spec : {M : Type 1} → statement M
 take-turn-spec =

@@ -5,7 +5,6 @@ use Rattle.ids.proofs.less.Tie as tie
 use Rattle.ids.proofs.less.Reads as reads
 use Rattle.ids.proofs.less.Lts as lts
 
--- src/lib.rt:34:1
 returns : tie.Need-returns
 returns c = let p = c .before .before .before .before .before .before .args in less-words (p .a) (p .b) (omega arith) (omega arith)
 

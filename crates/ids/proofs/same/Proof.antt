@@ -5,7 +5,6 @@ use Rattle.ids.proofs.same.Tie as tie
 use Rattle.ids.proofs.same.Reads as reads
 use Rattle.ids.proofs.same.Lts as lts
 
--- src/lib.rt:28:1
 returns : tie.Need-returns
 returns c = let p = c .before .before .before .before .args in same-words (p .a) (p .b) (omega arith) (omega arith)
 

@@ -5,11 +5,9 @@ use Rattle.locks.proofs.as_dropped.Reads as reads
 use Rattle.locks.proofs.as_dropped.Lts as lts
 use Rattle.locks.proofs.as_dropping.Reads as as-dropping-reads
 
--- src/lib.rt:205:9
 as-dropping-requires : tie.Need-as-dropping-requires
 as-dropping-requires c κs = search needs
 
--- src/lib.rt:201:1
 returns : tie.Need-returns
 returns c = rw (c .before .as-dropping .ensures)
 

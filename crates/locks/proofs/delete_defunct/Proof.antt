@@ -12,44 +12,34 @@ use Rattle.locks.proofs.judge.Reads as judge-reads
 use Rattle.operations.proofs.acknowledge.acknowledge_defunct.Reads as acknowledge-defunct-reads
 use Rattle.rules.proofs.broken.Reads as broken-reads
 
--- src/lib.rt:214:9
 judge-requires : tie.Need-judge-requires
 judge-requires c κs = search needs
 
--- src/lib.rt:216:13
 enum-told : tie.Need-enum-told
 enum-told c = search needs
 
--- src/lib.rt:216:13
 acknowledge-defunct-requires : tie.Need-acknowledge-defunct-requires
 acknowledge-defunct-requires c κs = search needs
 
--- src/lib.rt:217:9
 as-dropped-requires : tie.Need-as-dropped-requires
 as-dropped-requires c κs = search needs
 
--- src/lib.rt:217:9
 returns : tie.Need-returns
 returns c = c .as-dropped .ensures ∙ ap asDropped (c .before .acknowledge-defunct .ensures) ∙ drop-done _ _ _ _ _ (c .before .before .before .before .judge .ensures) (c .before .before .enum-told .given .1)
 
--- src/lib.rt:219:9
 broken-requires : tie.Need-broken-requires
 broken-requires c κs = search needs
 
--- src/lib.rt:221:25
 enum-known-v : tie.Need-enum-known-v
 enum-known-v c = search needs
 
--- src/lib.rt:225:27
 enum-told-2 : tie.Need-enum-told-2
 enum-told-2 c = search needs
 
--- src/lib.rt:211:1
 returns-2 : tie.Need-returns-2
 unfolding deleteDefunctOn
 returns-2 c = on-broken _ _ _ _ _ (c .before .before .before .broken .ensures) (c .before .v .given .1)
 
--- src/lib.rt:211:1
 returns-3 : tie.Need-returns-3
 returns-3 c = drop-kept _ _ _ _ _ (c .before .before .before .before .judge .ensures) (c .before .before .before .match .keys2) (sym (c .before .before .broken .ensures) ∙ c .enum-told2 .given .1)
 

@@ -22,15 +22,12 @@ tested c = sym (c .before .before .broken .ensures) ∙ c .enum-told .given .1
 tidy : (c : tie.After-enum-told) → Tidy (c .before .before .before .args .s)
 tidy c = tidy-of-sound (c .before .before .before .args .s) (search (needs, length-of-mapped)) (search (needs, length-of-mapped)) (tested c)
 
--- src/lib.rt:118:9
 broken-requires : tie.Need-broken-requires
 broken-requires c κs = search needs
 
--- src/lib.rt:119:28
 enum-known-v : tie.Need-enum-known-v
 enum-known-v c = search needs
 
--- src/lib.rt:120:9
 returns : tie.Need-returns
 unfolding hasNonVehicleOn
 returns c = on-broken _ _ _ _ _ (c .before .before .before .broken .ensures) (c .before .v .given .1)
@@ -38,11 +35,9 @@ returns c = on-broken _ _ _ _ _ (c .before .before .before .broken .ensures) (c 
 enum-told : tie.Need-enum-told
 enum-told c = search needs
 
--- src/lib.rt:123:9
 kinds-held-requires : tie.Need-kinds-held-requires
 kinds-held-requires c κs = tidy (c .before) .active
 
--- src/lib.rt:115:1
 returns-2 : tie.Need-returns-2
 returns-2 c = laws.non-vehicle-is _ (tested (c .before .before .before)) _ (c .before .kinds-held .ensures)
 

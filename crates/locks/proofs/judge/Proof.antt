@@ -26,56 +26,45 @@ abbrev μ-loop : tie.MeasureT-loop
 long : (c : tie.Start Inv-loop μ-loop) → length (c .args .t1 .defunct) ≡ 128
 long c = search (needs, length-of-mapped)
 
--- src/lib.rt:176:5
 loop-holds : tie.Need-loop-holds Inv-loop μ-loop
 loop-holds c = (omega arith, refl)
 
--- src/lib.rt:178:13
 returns : tie.Need-returns Inv-loop μ-loop
 returns c =
     let o = c .before .before .before in
     let l = c .before .before .loop in
     ap (judgeDrop (o .args .scope) (o .args .subject)) (sym (entry-end _ (o .args .t1 .defunct) (o .args .t1 .defuncts) (l .i) (omega (arith, length-take (o .args .t1 .defuncts) (o .args .t1 .defunct)))) ∙ l .inv .1)
 
--- src/lib.rt:180:17
 mul-d : tie.Need-mul-d Inv-loop μ-loop
 mul-d c = omega arith
 
--- src/lib.rt:180:17
 element-copy-out-d : tie.Need-element-copy-out-d Inv-loop μ-loop
 element-copy-out-d c = omega arith
 
--- src/lib.rt:181:9
 add-i : tie.Need-add-i Inv-loop μ-loop
 add-i c = omega arith
 
--- src/lib.rt:182:12
 has-id-defunct-requires : tie.Need-has-id-defunct-requires Inv-loop μ-loop
 has-id-defunct-requires c κs = tt
 
--- src/lib.rt:183:13
 judge-entry-requires : tie.Need-judge-entry-requires Inv-loop μ-loop
 judge-entry-requires c κs = tt
 
--- src/lib.rt:183:13
 returns-2 : tie.Need-returns-2 Inv-loop μ-loop
 returns-2 c =
     let o = c .before .before .before .before .before .before .before in
     let l = c .before .before .before .before .before .before .loop in
     c .judge-entry .ensures ∙ ap (judgeDrop (o .args .scope) (o .args .subject)) (sym (entry-yes _ _ _ _ _ (c .before .before .before .before .if1 .left) (omega (arith, long o)) (sym (c .before .before .has-id-defunct .ensures) ∙ c .before .if2 .taken)) ∙ l .inv .1)
 
--- src/lib.rt:176:5
 loop-less : tie.Need-loop-less Inv-loop μ-loop
 loop-less c = omega arith
 
--- src/lib.rt:176:5
 loop-again : tie.Need-loop-again Inv-loop μ-loop
 loop-again c =
     let o = c .before .before .before .before .before .before in
     let l = c .before .before .before .before .before .loop in
     (omega arith, sym (entry-no _ _ _ _ _ (c .before .before .before .if1 .left) (omega (arith, long o)) (sym (c .before .has-id-defunct .ensures) ∙ c .if2 .left)) ∙ l .inv .1)
 
--- src/lib.rt:171:1
 returns-3 : tie.Need-returns-3 Inv-loop μ-loop
 returns-3 c =
     let o = c .before .before in

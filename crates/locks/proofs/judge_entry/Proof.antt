@@ -10,25 +10,21 @@ use Rattle.locks.proofs.judge_entry.Reads as reads
 use Rattle.locks.proofs.judge_entry.Lts as lts
 use Rattle.state.proofs.same_scope.Reads as same-scope-reads
 
--- src/lib.rt:160:9
 same-scope-requires : tie.Need-same-scope-requires
 same-scope-requires c κs = search needs
 
--- src/lib.rt:161:9
 returns : tie.Need-returns
 unfolding judgeEntry
 returns c =
     let e : sameScope _ _ ≡ false = sym (c .before .same-scope .ensures) ∙ not-true _ (c .if1 .taken) in
     rw e
 
--- src/lib.rt:164:9
 returns-2 : tie.Need-returns-2
 unfolding judgeEntry
 returns-2 c =
     let e : sameScope _ _ ≡ true = sym (c .before .before .before .same-scope .ensures) ∙ not-false _ (c .before .before .if1 .left) in
     rw (e, ne-eqb _ _ (c .if2 .taken))
 
--- src/lib.rt:155:1
 returns-3 : tie.Need-returns-3
 unfolding judgeEntry
 returns-3 c =

@@ -24,42 +24,33 @@ abbrev μ-loop : tie.MeasureT-loop
 inside : (c : tie.In-loop Inv-loop μ-loop) → c .before .loop .i < length (c .before .before .args .t1)
 inside c = let e : length (c .before .before .args .t1) ≡ 64 = search (needs, length-of-mapped) in omega arith
 
--- src/lib.rt:103:5
 loop-holds : tie.Need-loop-holds Inv-loop μ-loop
 loop-holds c = (omega arith, refl, refl)
 
--- src/lib.rt:104:17
 mul-a : tie.Need-mul-a Inv-loop μ-loop
 mul-a c = omega arith
 
--- src/lib.rt:104:17
 array-copy-out-a : tie.Need-array-copy-out-a Inv-loop μ-loop
 array-copy-out-a c = omega arith
 
--- src/lib.rt:107:13
 is-group-requires : tie.Need-is-group-requires Inv-loop μ-loop
 is-group-requires c κs = tt
 
--- src/lib.rt:109:25
 is-vehicle-requires : tie.Need-is-vehicle-requires Inv-loop μ-loop
 is-vehicle-requires c κs = tt
 
--- src/lib.rt:110:9
 add-i : tie.Need-add-i Inv-loop μ-loop
 add-i c = omega arith
 
--- src/lib.rt:103:5
 loop-less : tie.Need-loop-less Inv-loop μ-loop
 loop-less c = omega arith
 
--- src/lib.rt:103:5
 loop-again : tie.Need-loop-again Inv-loop μ-loop
 loop-again c =
     let b = c .before .before .before .before in
     let l = b .before .loop in
     (omega arith, groups-more _ _ _ _ (inside b) _ (l .inv .1) (c .before .is-group .ensures), ecus-more _ _ _ _ (inside b) _ _ (l .inv .2) (c .is-vehicle .ensures) (c .before .is-group .ensures))
 
--- src/lib.rt:96:1
 returns : tie.Need-returns Inv-loop μ-loop
 returns c =
     let l = c .before .loop in

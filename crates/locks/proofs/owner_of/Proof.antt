@@ -4,27 +4,21 @@ use Rattle.locks.proofs.owner_of.Tie as tie
 use Rattle.locks.proofs.owner_of.Reads as reads
 use Rattle.locks.proofs.owner_of.Lts as lts
 
--- src/lib.rt:83:35
 enum-known-f : tie.Need-enum-known-f
 enum-known-f c = search needs
 
--- src/lib.rt:84:33
 enum-told : tie.Need-enum-told
 enum-told c = search needs
 
--- src/lib.rt:85:27
 enum-known-f-2 : tie.Need-enum-known-f-2
 enum-known-f-2 c = search needs
 
--- src/lib.rt:79:1
 returns : tie.Need-returns
 returns c = rw (c .before .f .given .1)
 
--- src/lib.rt:79:1
 returns-2 : tie.Need-returns-2
 returns-2 c = search needs
 
--- src/lib.rt:79:1
 returns-3 : tie.Need-returns-3
 returns-3 c = rw (c .before .f2 .given .1)
 

@@ -23,15 +23,12 @@ tested c = sym (c .before .before .broken .ensures) ∙ c .enum-told .given .1
 tidy : (c : tie.After-enum-told) → Tidy (c .before .before .before .args .s)
 tidy c = tidy-of-sound (c .before .before .before .args .s) (search (needs, length-of-mapped)) (search (needs, length-of-mapped)) (tested c)
 
--- src/lib.rt:140:9
 broken-requires : tie.Need-broken-requires
 broken-requires c κs = search needs
 
--- src/lib.rt:141:28
 enum-known-v : tie.Need-enum-known-v
 enum-known-v c = search needs
 
--- src/lib.rt:142:9
 returns : tie.Need-returns
 unfolding prepareUpdateOn
 returns c = on-broken _ _ _ _ _ (c .before .before .before .broken .ensures) (c .before .v .given .1)
@@ -39,23 +36,18 @@ returns c = on-broken _ _ _ _ _ (c .before .before .before .broken .ensures) (c 
 enum-told : tie.Need-enum-told
 enum-told c = search needs
 
--- src/lib.rt:145:9
 kinds-held-requires : tie.Need-kinds-held-requires
 kinds-held-requires c κs = tidy (c .before) .active
 
--- src/lib.rt:147:9
 returns-2 : tie.Need-returns-2
 returns-2 c = laws.group-held _ (tested (c .before .before .before)) _ (c .before .kinds-held .ensures) _ (c .if1 .taken)
 
--- src/lib.rt:150:9
 returns-3 : tie.Need-returns-3
 returns-3 c = laws.ecu-held _ (tested (c .before .before .before .before)) _ (c .before .before .kinds-held .ensures) _ (c .before .if1 .left) (c .if2 .taken)
 
--- src/lib.rt:152:9
 raise-requires : tie.Need-raise-requires
 raise-requires c κs = search needs
 
--- src/lib.rt:137:1
 returns-4 : tie.Need-returns-4
 returns-4 c = laws.none-held _ (tested (c .before .before .before .before .before)) _ (c .before .before .before .kinds-held .ensures) _ (c .before .before .if1 .left) (c .before .if2 .left) _ (c .raise .ensures)
 

@@ -7,39 +7,31 @@ use Rattle.locks.proofs.response_class.Tie as tie
 use Rattle.locks.proofs.response_class.Reads as reads
 use Rattle.locks.proofs.response_class.Lts as lts
 
--- src/lib.rt:67:1
 returns : tie.Need-returns
 unfolding responseOf _or_
 returns c = rw (c .match .keys1)
 
--- src/lib.rt:67:1
 returns-2 : tie.Need-returns-2
 unfolding responseOf _or_
 returns-2 c = rw (c .match .keys4)
 
--- src/lib.rt:67:1
 returns-3 : tie.Need-returns-3
 returns-3 c = class-0 _ (c .if1 .taken)
 
--- src/lib.rt:67:1
 returns-4 : tie.Need-returns-4
 returns-4 c = let r = c .before .before .before .match .rest in class-none _ (c .if3 .left) (r .0 .0 .0 .1) (r .0 .0 .1) (r .0 .1) (r .1)
 
--- src/lib.rt:67:1
 returns-5 : tie.Need-returns-5
 unfolding responseOf _or_
 returns-5 c = ⊎-elim (λ e. rw e) (λ e. rw e) (c .match .keys2)
 
--- src/lib.rt:67:1
 returns-6 : tie.Need-returns-6
 returns-6 c = class-6-7 _ (c .before .if2 .left) (c .if3 .taken)
 
--- src/lib.rt:67:1
 returns-7 : tie.Need-returns-7
 unfolding responseOf _or_
 returns-7 c = ⊎-elim (λ e. rw e) (⊎-elim (λ e. rw e) (λ e. rw e)) (c .match .keys3)
 
--- src/lib.rt:67:1
 returns-8 : tie.Need-returns-8
 returns-8 c = let r = c .before .before .match .rest in class-3-5 _ (c .before .if1 .left) (c .if2 .taken) (r .0 .1) (r .0 .0 .1)
 

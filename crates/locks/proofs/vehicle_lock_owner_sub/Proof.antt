@@ -9,15 +9,12 @@ use Rattle.locks.proofs.vehicle_lock_owner_sub.Lts as lts
 use Rattle.locks.proofs.owner_of.Reads as owner-of-reads
 use Rattle.lookups.proofs.reads.active_for_scope.Reads as active-for-scope-reads
 
--- src/lib.rt:92:9
 active-for-scope-requires : tie.Need-active-for-scope-requires
 active-for-scope-requires c κs = search needs
 
--- src/lib.rt:93:5
 owner-of-requires : tie.Need-owner-of-requires
 owner-of-requires c κs = search needs
 
--- src/lib.rt:89:1
 returns : tie.Need-returns
 returns c = c .owner-of .ensures ∙ ap ownerOf (c .before .active-for-scope .ensures) ∙ owner-is _
 

@@ -13,35 +13,27 @@ Inv-loop s t i₀ i = i ≤ 64
 abbrev μ-loop : tie.MeasureT-loop
 μ-loop s t i₀ i = 64 - i
 
--- src/main.rt:130:5
 loop-holds : tie.Need-loop-holds Inv-loop μ-loop
 loop-holds c = search needs
 
--- src/main.rt:132:20
 mul-active : tie.Need-mul-active Inv-loop μ-loop
 mul-active c = search needs
 
--- src/main.rt:132:20
 array-copy-out-active : tie.Need-array-copy-out-active Inv-loop μ-loop
 array-copy-out-active c = search needs
 
--- src/main.rt:132:13
 active-requires : tie.Need-active-requires Inv-loop μ-loop
 active-requires c κs = search needs
 
--- src/main.rt:134:9
 add-i : tie.Need-add-i Inv-loop μ-loop
 add-i c = search needs
 
--- src/main.rt:130:5
 loop-less : tie.Need-loop-less Inv-loop μ-loop
 loop-less c = search needs
 
--- src/main.rt:130:5
 loop-again : tie.Need-loop-again Inv-loop μ-loop
 loop-again c = search needs
 
--- src/main.rt:127:1
 returns : tie.Need-returns Inv-loop μ-loop
 returns c = search needs
 

@@ -13,35 +13,27 @@ Inv-loop s t i₀ i = i ≤ 128
 abbrev μ-loop : tie.MeasureT-loop
 μ-loop s t i₀ i = 128 - i
 
--- src/main.rt:141:5
 loop-holds : tie.Need-loop-holds Inv-loop μ-loop
 loop-holds c = search needs
 
--- src/main.rt:143:24
 mul-defunct : tie.Need-mul-defunct Inv-loop μ-loop
 mul-defunct c = search needs
 
--- src/main.rt:143:24
 array-copy-out-defunct : tie.Need-array-copy-out-defunct Inv-loop μ-loop
 array-copy-out-defunct c = search needs
 
--- src/main.rt:143:13
 defunct-requires : tie.Need-defunct-requires Inv-loop μ-loop
 defunct-requires c κs = search needs
 
--- src/main.rt:145:9
 add-i : tie.Need-add-i Inv-loop μ-loop
 add-i c = search needs
 
--- src/main.rt:141:5
 loop-less : tie.Need-loop-less Inv-loop μ-loop
 loop-less c = search needs
 
--- src/main.rt:141:5
 loop-again : tie.Need-loop-again Inv-loop μ-loop
 loop-again c = search needs
 
--- src/main.rt:138:1
 returns : tie.Need-returns Inv-loop μ-loop
 returns c = search needs
 

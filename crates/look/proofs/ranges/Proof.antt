@@ -17,35 +17,27 @@ Inv-loop c at₀ more₀ at more = 0 ≤ at
 abbrev μ-loop : tie.MeasureT-loop
 μ-loop c at₀ more₀ at more = 256 - at
 
--- src/main.rt:55:9
 edge-requires : tie.Need-edge-requires Inv-loop μ-loop
 edge-requires c κs = search needs
 
--- src/main.rt:57:5
 loop-holds : tie.Need-loop-holds Inv-loop μ-loop
 loop-holds c = search needs
 
--- src/main.rt:58:33
 add-edge : tie.Need-add-edge Inv-loop μ-loop
 add-edge c = search needs
 
--- src/main.rt:58:13
 edge-requires-2 : tie.Need-edge-requires-2 Inv-loop μ-loop
 edge-requires-2 c κs = search needs
 
--- src/main.rt:59:19
 sub-range : tie.Need-sub-range Inv-loop μ-loop
 sub-range c = omega (arith, c .edge2 .ensures, edge-up (c .before .before .before .before .args .c) false (c .before .before .loop .at + 1))
 
--- src/main.rt:59:9
 range-requires : tie.Need-range-requires Inv-loop μ-loop
 range-requires c κs = search needs
 
--- src/main.rt:61:9
 edge-requires-3 : tie.Need-edge-requires-3 Inv-loop μ-loop
 edge-requires-3 c κs = search needs
 
--- src/main.rt:57:5
 loop-less : tie.Need-loop-less Inv-loop μ-loop
 loop-less c =
     let a = c .before .before .before .before .before .before .args .c in
@@ -57,11 +49,9 @@ loop-less c =
       edge-up a true (c .before .before .edge2 .result),
     )
 
--- src/main.rt:57:5
 loop-again : tie.Need-loop-again Inv-loop μ-loop
 loop-again c = search needs
 
--- src/main.rt:54:1
 returns : tie.Need-returns Inv-loop μ-loop
 returns c = search needs
 

@@ -8,12 +8,13 @@ use lib.ListN.{length, set, length-set}
 use lib.Seq.{paste, paste-zero}
 use Rattle.names.specs.Bytes.{kept}
 use Rattle.names.proofs.Puts.{one-more, all-stored}
+use Rattle.names.specs.Table.{tableSize, entryStart}
 use borrow.Author.Needs.{needs}
 use Rattle.names.proofs.learn.Statement.{statement}
 use Rattle.names.proofs.learn.Tie as tie
 
 abbrev Inv-loop : tie.InvT-loop
-Inv-loop table₀ name folding n start at i₀ table i = (i ≤ length name) × (length table ≡ 16642) × (table ≡ paste table₀ at (kept folding name) i)
+Inv-loop table₀ name folding n start at i₀ table i = (i ≤ length name) × (length table ≡ tableSize) × (table ≡ paste table₀ at (kept folding name) i)
 
 abbrev μ-loop : tie.MeasureT-loop
 μ-loop table₀ name folding n start at i₀ table i = length name - i
@@ -34,7 +35,7 @@ add-at : tie.Need-add-at Inv-loop μ-loop
 add-at c = search needs
 
 loop-holds : tie.Need-loop-holds Inv-loop μ-loop
-loop-holds c = let a = c .before .before .args in (search needs, simp length-set (c .before .before .pre .0), paste-zero (set (now (a .table)) (2 + a .n * 65) (length (now (a .name)))) (2 + a .n * 65 + 1) (kept (a .folding) (now (a .name))))
+loop-holds c = let a = c .before .before .args in (search needs, simp length-set (c .before .before .pre .0), paste-zero (set (now (a .table)) (entryStart (a .n)) (length (now (a .name)))) (entryStart (a .n) + 1) (kept (a .folding) (now (a .name))))
 
 shared-slice-read-keep-byte : tie.Need-shared-slice-read-keep-byte Inv-loop μ-loop
 shared-slice-read-keep-byte c = search needs

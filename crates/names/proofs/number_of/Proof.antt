@@ -27,8 +27,8 @@ returns-2 c = too-long _ _ _ _ (c .before .before .check-table .ensures) (not-fa
 count-of-requires : tie.Need-count-of-requires
 count-of-requires c κs = right-size _ _ (sym (c .before .before .before .check-table .ensures) ∙ not-false _ (c .before .before .if1 .left))
 
-place-from-requires : tie.Need-place-from-requires
-place-from-requires c κs = let y = sym (c .before .before .before .before .before .check-table .ensures) ∙ not-false _ (c .before .before .before .before .if1 .left) in let q = c .before .count-of .ensures in (right-size _ _ y, search needs, omega (arith, right-count _ _ y, q), rw q (right-short _ _ y))
+place-of-requires : tie.Need-place-of-requires
+place-of-requires c κs = let y = sym (c .before .before .before .before .before .check-table .ensures) ∙ not-false _ (c .before .before .before .before .if1 .left) in let q = c .before .count-of .ensures in (right-size _ _ y, omega (arith, right-count _ _ y, q), rw q (right-short _ _ y))
 
 cast-t15 : tie.Need-cast-t15
 cast-t15 c = let y = sym (c .before .before .before .before .before .before .before .check-table .ensures) ∙ not-false _ (c .before .before .before .before .before .before .if1 .left) in omega (arith, right-count _ _ y, c .before .before .before .count-of .ensures)
@@ -37,13 +37,13 @@ same-length-3 : tie.Need-same-length-3
 same-length-3 c = search needs
 
 returns-3 : tie.Need-returns-3
-returns-3 c = there _ _ _ _ (c .before .before .before .before .before .before .before .check-table .ensures) (not-false _ (c .before .before .before .before .before .before .if1 .left)) (c .before .before .before .before .before .if2 .left) _ _ (c .before .before .before .count-of .ensures) (c .before .place-from .ensures) (c .if3 .taken)
+returns-3 c = there _ _ _ _ (c .before .before .before .before .before .before .before .check-table .ensures) (not-false _ (c .before .before .before .before .before .before .if1 .left)) (c .before .before .before .before .before .if2 .left) _ _ (c .before .before .before .count-of .ensures) (c .before .place-of .ensures) (c .if3 .taken)
 
 same-length-4 : tie.Need-same-length-4
 same-length-4 c = search needs
 
 returns-4 : tie.Need-returns-4
-returns-4 c = full _ _ _ _ (c .before .before .before .before .before .before .before .before .check-table .ensures) (not-false _ (c .before .before .before .before .before .before .before .if1 .left)) (c .before .before .before .before .before .before .if2 .left) _ _ (c .before .before .before .before .count-of .ensures) (c .before .before .place-from .ensures) (c .before .if3 .left) (c .if4 .taken)
+returns-4 c = full _ _ _ _ (c .before .before .before .before .before .before .before .before .check-table .ensures) (not-false _ (c .before .before .before .before .before .before .before .if1 .left)) (c .before .before .before .before .before .before .if2 .left) _ _ (c .before .before .before .before .count-of .ensures) (c .before .before .place-of .ensures) (c .before .if3 .left) (c .if4 .taken)
 
 learn-requires : tie.Need-learn-requires
 learn-requires c κs = (right-size _ _ (sym (c .before .before .before .before .before .before .before .before .before .check-table .ensures) ∙ not-false _ (c .before .before .before .before .before .before .before .before .if1 .left)), c .before .before .before .before .before .before .before .if2 .left, c .before .if4 .left)
@@ -55,7 +55,7 @@ same-length-5 : tie.Need-same-length-5
 same-length-5 c = search needs
 
 returns-5 : tie.Need-returns-5
-returns-5 c = taught _ _ _ _ (c .before .before .before .before .before .before .before .before .before .before .before .before .check-table .ensures) (not-false _ (c .before .before .before .before .before .before .before .before .before .before .before .if1 .left)) (c .before .before .before .before .before .before .before .before .before .before .if2 .left) _ _ (c .before .before .before .before .before .before .before .before .count-of .ensures) (c .before .before .before .before .before .before .place-from .ensures) _ (c .before .before .before .before .before .if3 .left) (c .before .before .before .before .if4 .left) (c .before .before .learn .ensures)
+returns-5 c = taught _ _ _ _ (c .before .before .before .before .before .before .before .before .before .before .before .before .check-table .ensures) (not-false _ (c .before .before .before .before .before .before .before .before .before .before .before .if1 .left)) (c .before .before .before .before .before .before .before .before .before .before .if2 .left) _ _ (c .before .before .before .before .before .before .before .before .count-of .ensures) (c .before .before .before .before .before .before .place-of .ensures) _ (c .before .before .before .before .before .if3 .left) (c .before .before .before .before .if4 .left) (c .before .before .learn .ensures)
 
 pub number-of-spec : {M : Type 1} → statement M
 number-of-spec =
@@ -67,7 +67,7 @@ number-of-spec =
     same-length-2
     returns-2
     count-of-requires
-    place-from-requires
+    place-of-requires
     cast-t15
     same-length-3
     returns-3

@@ -6,6 +6,7 @@ use Prim.Native.Nat.{_+_, _*_}
 use mathlib.Core.Path.{sym, _∙_}
 use native.Mathlib.Omega.{arith}
 use borrow.Author.Tests.{not-true, not-false}
+use Rattle.names.specs.Table.{entryStart}
 use borrow.Author.Needs.{needs}
 use Rattle.names.proofs.place_at.Statement.{statement}
 use Rattle.names.proofs.place_at.Tie as tie
@@ -35,7 +36,7 @@ shared-slice-read-t10 : tie.Need-shared-slice-read-t10
 shared-slice-read-t10 c = let y = sym (c .before .before .before .before .check-table .ensures) ∙ not-false _ (c .before .before .before .if1 .left) in omega (arith, right-size _ _ y, right-count _ _ y, c .before .before .count-of .ensures)
 
 cast-t11 : tie.Need-cast-t11
-cast-t11 c = omega (arith, c .shared-slice-known2 .given (2 + c .before .before .before .before .before .before .args .number * 65))
+cast-t11 c = omega (arith, c .shared-slice-known2 .given (entryStart (c .before .before .before .before .before .before .args .number)))
 
 returns-3 : tie.Need-returns-3
 returns-3 c = found _ _ _ _ (c .before .before .before .before .check-table .ensures) (not-false _ (c .before .before .before .if1 .left)) _ (c .before .before .count-of .ensures) (c .before .if2 .left)

@@ -16,47 +16,36 @@ Inv-loop s₀ i₀ s i = i ≤ 64
 abbrev μ-loop : tie.MeasureT-loop
 μ-loop s₀ i₀ s i = 64 - i
 
--- src/main.rt:249:9
 empty-requires : tie.Need-empty-requires Inv-loop μ-loop
 empty-requires c κs = search needs
 
--- src/main.rt:251:5
 loop-holds : tie.Need-loop-holds Inv-loop μ-loop
 loop-holds c = search needs
 
--- src/main.rt:253:13
 cast-lock : tie.Need-cast-lock Inv-loop μ-loop
 cast-lock c = search needs
 
--- src/main.rt:253:13
 add-lock : tie.Need-add-lock Inv-loop μ-loop
 add-lock c = search needs
 
--- src/main.rt:255:13
 empty-requires-2 : tie.Need-empty-requires-2 Inv-loop μ-loop
 empty-requires-2 c κs = search needs
 
--- src/main.rt:252:13
 lock-requires : tie.Need-lock-requires Inv-loop μ-loop
 lock-requires c κs = search needs
 
--- src/main.rt:258:9
 put-requires : tie.Need-put-requires Inv-loop μ-loop
 put-requires c κs = search needs
 
--- src/main.rt:259:9
 add-i : tie.Need-add-i Inv-loop μ-loop
 add-i c = search needs
 
--- src/main.rt:251:5
 loop-less : tie.Need-loop-less Inv-loop μ-loop
 loop-less c = search needs
 
--- src/main.rt:251:5
 loop-again : tie.Need-loop-again Inv-loop μ-loop
 loop-again c = search needs
 
--- src/main.rt:248:1
 returns : tie.Need-returns Inv-loop μ-loop
 returns c = search needs
 

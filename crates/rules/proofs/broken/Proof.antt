@@ -20,7 +20,7 @@ use Rattle.state.specs.Locks.{akey, dkey, blankActive, blankDefunct}
 use Rattle.state.specs.Model.{modelOf}
 use Rattle.rules.specs.declared.Verdict.the-variants.{Broken}
 use Rattle.rules.specs.Rules.{brokenRule, isBlankA, isBlankD, blanks, inOrder, neatA, neatD, neat, rule0, rule1, rule9}
-use Rattle.rules.specs.Places.{idAt, keyAt, Sorted}
+use Rattle.rules.specs.Code.{idAt, keyAt, Sorted}
 use Rattle.rules.specs.Code.{Columns, Entries, lowestFrom, activeRules}
 use Rattle.rules.proofs.Fill.{Filled, filled-none, filled-more, columns-of, room-of, Entered, entered-none, entered-more, entries-of, rising-law, sorted-law}
 use Rattle.rules.proofs.Rings.{one-law, ring-law}

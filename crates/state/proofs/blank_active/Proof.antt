@@ -6,11 +6,9 @@ use Rattle.state.proofs.blank_active.Reads as reads
 use Rattle.state.proofs.blank_active.Lts as lts
 use Rattle.state.proofs.blank_lock.Reads as blank-lock-reads
 
--- src/lib.rt:128:15
 blank-lock-requires : tie.Need-blank-lock-requires
 blank-lock-requires c κs = search needs
 
--- src/lib.rt:124:1
 returns : tie.Need-returns
 unfolding blankActive
 returns c = rw (c .blank-lock .ensures)

@@ -6,11 +6,9 @@ use Rattle.state.proofs.blank_defunct.Reads as reads
 use Rattle.state.proofs.blank_defunct.Lts as lts
 use Rattle.state.proofs.blank_lock.Reads as blank-lock-reads
 
--- src/lib.rt:139:15
 blank-lock-requires : tie.Need-blank-lock-requires
 blank-lock-requires c κs = search needs
 
--- src/lib.rt:135:1
 returns : tie.Need-returns
 unfolding blankDefunct
 returns c = rw (c .blank-lock .ensures)

@@ -7,33 +7,26 @@ use Rattle.state.proofs.ecu_in.Reads as reads
 use Rattle.state.proofs.ecu_in.Lts as lts
 use Rattle.coverage.proofs.LockCoverage.contains_ecu.Reads as contains-ecu-reads
 
--- src/lib.rt:81:30
 enum-told : tie.Need-enum-told
 enum-told c = search needs
 
--- src/lib.rt:82:23
-enum-known-k : tie.Need-enum-known-k
-enum-known-k c = search needs
+enum-known-scope : tie.Need-enum-known-scope
+enum-known-scope c = search needs
 
--- src/lib.rt:82:29
 contains-ecu-requires : tie.Need-contains-ecu-requires
 contains-ecu-requires c κs = search needs
 
--- src/lib.rt:83:41
 enum-told-2 : tie.Need-enum-told-2
 enum-told-2 c = search needs
 
--- src/lib.rt:77:1
 returns : tie.Need-returns
 unfolding ecuIn
 returns c = search needs
 
--- src/lib.rt:77:1
 returns-2 : tie.Need-returns-2
 unfolding ecuIn
-returns-2 c = ecu-is _ _ _ _ (c .before .before .k .given .1) (c .contains-ecu .ensures)
+returns-2 c = ecu-is _ _ _ _ (c .before .before .scope .given .1) (c .contains-ecu .ensures)
 
--- src/lib.rt:77:1
 returns-3 : tie.Need-returns-3
 unfolding ecuIn
 returns-3 c = search needs
@@ -41,4 +34,4 @@ returns-3 c = search needs
 pub ecu-in-spec : {M : Type 1} → statement M
 ecu-in-spec =
     tie.close
-    (tie.spec enum-told enum-known-k contains-ecu-requires enum-told-2 returns returns-2 returns-3)
+    (tie.spec enum-told enum-known-scope contains-ecu-requires enum-told-2 returns returns-2 returns-3)

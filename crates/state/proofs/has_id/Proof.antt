@@ -7,11 +7,9 @@ use Rattle.state.proofs.has_id.Reads as reads
 use Rattle.state.proofs.has_id.Lts as lts
 use Rattle.ids.proofs.same.Reads as same-reads
 
--- src/lib.rt:169:5
 same-requires : tie.Need-same-requires
 same-requires c κs = search needs
 
--- src/lib.rt:166:1
 returns : tie.Need-returns
 unfolding hasId sameId
 returns c = search needs

@@ -7,11 +7,9 @@ use Rattle.state.proofs.has_id_defunct.Reads as reads
 use Rattle.state.proofs.has_id_defunct.Lts as lts
 use Rattle.ids.proofs.same.Reads as same-reads
 
--- src/lib.rt:175:5
 same-requires : tie.Need-same-requires
 same-requires c κs = search needs
 
--- src/lib.rt:172:1
 returns : tie.Need-returns
 unfolding hasIdD sameId
 returns c = search needs

@@ -5,29 +5,23 @@ use Rattle.state.proofs.is_group.Tie as tie
 use Rattle.state.proofs.is_group.Reads as reads
 use Rattle.state.proofs.is_group.Lts as lts
 
--- src/lib.rt:70:30
 enum-told : tie.Need-enum-told
 enum-told c = search needs
 
--- src/lib.rt:71:29
 enum-told-2 : tie.Need-enum-told-2
 enum-told-2 c = search needs
 
--- src/lib.rt:72:41
 enum-told-3 : tie.Need-enum-told-3
 enum-told-3 c = search needs
 
--- src/lib.rt:66:1
 returns : tie.Need-returns
 unfolding isGroup
 returns c = search needs
 
--- src/lib.rt:66:1
 returns-2 : tie.Need-returns-2
 unfolding isGroup
 returns-2 c = search needs
 
--- src/lib.rt:66:1
 returns-3 : tie.Need-returns-3
 unfolding isGroup
 returns-3 c = search needs

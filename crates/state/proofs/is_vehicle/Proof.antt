@@ -5,29 +5,23 @@ use Rattle.state.proofs.is_vehicle.Tie as tie
 use Rattle.state.proofs.is_vehicle.Reads as reads
 use Rattle.state.proofs.is_vehicle.Lts as lts
 
--- src/lib.rt:60:30
 enum-told : tie.Need-enum-told
 enum-told c = search needs
 
--- src/lib.rt:61:29
 enum-told-2 : tie.Need-enum-told-2
 enum-told-2 c = search needs
 
--- src/lib.rt:62:41
 enum-told-3 : tie.Need-enum-told-3
 enum-told-3 c = search needs
 
--- src/lib.rt:56:1
 returns : tie.Need-returns
 unfolding isVehicle
 returns c = search needs
 
--- src/lib.rt:56:1
 returns-2 : tie.Need-returns-2
 unfolding isVehicle
 returns-2 c = search needs
 
--- src/lib.rt:56:1
 returns-3 : tie.Need-returns-3
 unfolding isVehicle
 returns-3 c = search needs

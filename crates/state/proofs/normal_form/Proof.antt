@@ -6,15 +6,12 @@ use Rattle.state.proofs.normal_form.Reads as reads
 use Rattle.state.proofs.normal_form.Lts as lts
 use Rattle.state.proofs.normal_coverage.Reads as normal-coverage-reads
 
--- src/lib.rt:163:5
 normal-coverage-requires : tie.Need-normal-coverage-requires
 normal-coverage-requires c κs = search needs
 
--- src/lib.rt:166:9
 returns : tie.Need-returns
 returns c = normal-child _ _ (c .before .before .normal-coverage .ensures) (c .if1 .taken)
 
--- src/lib.rt:159:1
 returns-2 : tie.Need-returns-2
 returns-2 c = normal-lone _ _ (c .before .before .normal-coverage .ensures) (c .if1 .left)
 

@@ -6,15 +6,12 @@ use Rattle.state.proofs.same_scope.Reads as reads
 use Rattle.state.proofs.same_scope.Lts as lts
 use Rattle.state.proofs.scope_code.Reads as scope-code-reads
 
--- src/lib.rt:101:5
 scope-code-requires : tie.Need-scope-code-requires
 scope-code-requires c κs = search needs
 
--- src/lib.rt:101:22
 scope-code-requires-2 : tie.Need-scope-code-requires-2
 scope-code-requires-2 c κs = search needs
 
--- src/lib.rt:98:1
 returns : tie.Need-returns
 unfolding sameScope
 returns c = rw (c .before .scope-code .ensures, c .scope-code2 .ensures)

@@ -17,47 +17,36 @@ Inv-loop image₀ out₀ t₀ i₀ image out t i = (i ≤ length image₀) × ((
 abbrev μ-loop : tie.MeasureT-loop
 μ-loop image₀ out₀ t₀ i₀ image out t i = length image - i
 
--- src/main.rt:148:9
 begun-requires : tie.Need-begun-requires Inv-loop μ-loop
 begun-requires c κs = search needs
 
--- src/main.rt:150:5
 loop-holds : tie.Need-loop-holds Inv-loop μ-loop
 loop-holds c = search needs
 
--- src/main.rt:152:21
 begun-requires-2 : tie.Need-begun-requires-2 Inv-loop μ-loop
 begun-requires-2 c κs = search needs
 
--- src/main.rt:152:9
 changed-requires : tie.Need-changed-requires Inv-loop μ-loop
 changed-requires c κs = search needs
 
--- src/main.rt:153:9
 byte-line-requires : tie.Need-byte-line-requires Inv-loop μ-loop
 byte-line-requires c κs = search needs
 
--- src/main.rt:154:9
 add-i : tie.Need-add-i Inv-loop μ-loop
 add-i c = search needs
 
--- src/main.rt:150:5
 loop-less : tie.Need-loop-less Inv-loop μ-loop
 loop-less c = search needs
 
--- src/main.rt:150:5
 loop-again : tie.Need-loop-again Inv-loop μ-loop
 loop-again c = search needs
 
--- src/main.rt:147:1
 same-length : tie.Need-same-length Inv-loop μ-loop
 same-length c = search needs
 
--- src/main.rt:147:1
 same-length-2 : tie.Need-same-length-2 Inv-loop μ-loop
 same-length-2 c = search needs
 
--- src/main.rt:147:1
 returns : tie.Need-returns Inv-loop μ-loop
 returns c = search needs
 

@@ -15,47 +15,36 @@ Inv-loop image₀ i out₀ old t₀ k₀ image out t k = (length image ≡ lengt
 abbrev μ-loop : tie.MeasureT-loop
 μ-loop image₀ i out₀ old t₀ k₀ image out t k = k
 
--- src/main.rt:101:9
 returns : tie.Need-returns Inv-loop μ-loop
 returns c = search needs
 
--- src/main.rt:103:15
 slice-read-old : tie.Need-slice-read-old Inv-loop μ-loop
 slice-read-old c = search needs
 
--- src/main.rt:106:5
 loop-holds : tie.Need-loop-holds Inv-loop μ-loop
 loop-holds c = search needs
 
--- src/main.rt:107:9
 tried-requires : tie.Need-tried-requires Inv-loop μ-loop
 tried-requires c κs = search needs
 
--- src/main.rt:108:9
 sub-k : tie.Need-sub-k Inv-loop μ-loop
 sub-k c = search needs
 
--- src/main.rt:106:5
 loop-less : tie.Need-loop-less Inv-loop μ-loop
 loop-less c = search needs
 
--- src/main.rt:106:5
 loop-again : tie.Need-loop-again Inv-loop μ-loop
 loop-again c = search needs
 
--- src/main.rt:110:5
 slice-write-image : tie.Need-slice-write-image Inv-loop μ-loop
 slice-write-image c = search needs
 
--- src/main.rt:99:1
 same-length : tie.Need-same-length Inv-loop μ-loop
 same-length c = search needs
 
--- src/main.rt:99:1
 same-length-2 : tie.Need-same-length-2 Inv-loop μ-loop
 same-length-2 c = search needs
 
--- src/main.rt:99:1
 returns-2 : tie.Need-returns-2 Inv-loop μ-loop
 returns-2 c = search needs
 

@@ -15,31 +15,24 @@ Inv-loop image out₀ t₀ n₀ out t n = (n ≤ length image) × (length out �
 abbrev μ-loop : tie.MeasureT-loop
 μ-loop image out₀ t₀ n₀ out t n = length image - n
 
--- src/main.rt:124:5
 loop-holds : tie.Need-loop-holds Inv-loop μ-loop
 loop-holds c = search needs
 
--- src/main.rt:125:9
 cut-requires : tie.Need-cut-requires Inv-loop μ-loop
 cut-requires c κs = search needs
 
--- src/main.rt:126:9
 add-n : tie.Need-add-n Inv-loop μ-loop
 add-n c = search needs
 
--- src/main.rt:124:5
 loop-less : tie.Need-loop-less Inv-loop μ-loop
 loop-less c = search needs
 
--- src/main.rt:124:5
 loop-again : tie.Need-loop-again Inv-loop μ-loop
 loop-again c = search needs
 
--- src/main.rt:121:1
 same-length : tie.Need-same-length Inv-loop μ-loop
 same-length c = search needs
 
--- src/main.rt:121:1
 returns : tie.Need-returns Inv-loop μ-loop
 returns c = search needs
 

@@ -13,35 +13,27 @@ Inv-loop counts k₀ k = k ≤ 22
 abbrev μ-loop : tie.MeasureT-loop
 μ-loop counts k₀ k = 22 - k
 
--- src/main.rt:183:5
 loop-holds : tie.Need-loop-holds Inv-loop μ-loop
 loop-holds c = search needs
 
--- src/main.rt:184:23
 mul-count-line : tie.Need-mul-count-line Inv-loop μ-loop
 mul-count-line c = search needs
 
--- src/main.rt:184:23
 array-read-count-line : tie.Need-array-read-count-line Inv-loop μ-loop
 array-read-count-line c = search needs
 
--- src/main.rt:184:9
 count-line-requires : tie.Need-count-line-requires Inv-loop μ-loop
 count-line-requires c κs = search needs
 
--- src/main.rt:185:9
 add-k : tie.Need-add-k Inv-loop μ-loop
 add-k c = search needs
 
--- src/main.rt:183:5
 loop-less : tie.Need-loop-less Inv-loop μ-loop
 loop-less c = search needs
 
--- src/main.rt:183:5
 loop-again : tie.Need-loop-again Inv-loop μ-loop
 loop-again c = search needs
 
--- src/main.rt:181:1
 returns : tie.Need-returns Inv-loop μ-loop
 returns c = search needs
 

@@ -15,43 +15,33 @@ Inv-loop out₀ n locks i₀ out i = ((i ≤ n) × (n ≤ 64)) × (length out �
 abbrev μ-loop : tie.MeasureT-loop
 μ-loop out₀ n locks i₀ out i = n - i
 
--- src/main.rt:261:5
 loop-holds : tie.Need-loop-holds Inv-loop μ-loop
 loop-holds c = search needs
 
--- src/main.rt:262:17
 mul-a : tie.Need-mul-a Inv-loop μ-loop
 mul-a c = search needs
 
--- src/main.rt:262:17
 array-copy-out-a : tie.Need-array-copy-out-a Inv-loop μ-loop
 array-copy-out-a c = search needs
 
--- src/main.rt:263:34
 mul-put-active : tie.Need-mul-put-active Inv-loop μ-loop
 mul-put-active c = search needs
 
--- src/main.rt:263:9
 put-active-requires : tie.Need-put-active-requires Inv-loop μ-loop
 put-active-requires c κs = search needs
 
--- src/main.rt:264:9
 add-i : tie.Need-add-i Inv-loop μ-loop
 add-i c = search needs
 
--- src/main.rt:261:5
 loop-less : tie.Need-loop-less Inv-loop μ-loop
 loop-less c = search needs
 
--- src/main.rt:261:5
 loop-again : tie.Need-loop-again Inv-loop μ-loop
 loop-again c = search needs
 
--- src/main.rt:257:1
 same-length : tie.Need-same-length Inv-loop μ-loop
 same-length c = search needs
 
--- src/main.rt:257:1
 returns : tie.Need-returns Inv-loop μ-loop
 returns c = search needs
 

@@ -16,35 +16,27 @@ Inv-loop list t₀ at₀ t at = 0 ≤ at
 abbrev μ-loop : tie.MeasureT-loop
 μ-loop list t₀ at₀ t at = length list - at
 
--- src/main.rt:366:5
 loop-holds : tie.Need-loop-holds Inv-loop μ-loop
 loop-holds c = search needs
 
--- src/main.rt:367:9
 turn-requires : tie.Need-turn-requires Inv-loop μ-loop
 turn-requires c κs = search needs
 
--- src/main.rt:370:13
 bad-list-requires : tie.Need-bad-list-requires Inv-loop μ-loop
 bad-list-requires c κs = search needs
 
--- src/main.rt:371:13
 returns : tie.Need-returns Inv-loop μ-loop
 returns c = search needs
 
--- src/main.rt:366:5
 loop-less : tie.Need-loop-less Inv-loop μ-loop
 loop-less c = search needs
 
--- src/main.rt:366:5
 loop-again : tie.Need-loop-again Inv-loop μ-loop
 loop-again c = search needs
 
--- src/main.rt:375:5
 totals-requires : tie.Need-totals-requires Inv-loop μ-loop
 totals-requires c κs = search needs
 
--- src/main.rt:358:1
 returns-2 : tie.Need-returns-2 Inv-loop μ-loop
 returns-2 c = search needs
 

@@ -5,7 +5,6 @@ use Rattle.coverage.proofs.LockCoverage.contains.Tie as tie
 use Rattle.coverage.proofs.LockCoverage.contains.Reads as reads
 use Rattle.coverage.proofs.LockCoverage.contains.Lts as lts
 
--- src/lib.rt:102:5
 returns : tie.Need-returns
 returns c = let p = c .before .before .before .before .before .before .before .before .before .before .before .before .before .before .args in contains-code (p .self) (p .other) (sized (p .other) (omega arith) (omega arith) (omega arith) (omega arith))
 

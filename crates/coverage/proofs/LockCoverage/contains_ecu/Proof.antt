@@ -7,19 +7,15 @@ use Rattle.coverage.proofs.LockCoverage.contains_ecu.Reads as reads
 use Rattle.coverage.proofs.LockCoverage.contains_ecu.Lts as lts
 use Rattle.coverage.proofs.word.Reads as word-reads
 
--- src/lib.rt:86:13
 word-requires : tie.Need-word-requires
 word-requires c κs = search needs
 
--- src/lib.rt:87:17
 cast-k : tie.Need-cast-k
 cast-k c = search needs
 
--- src/lib.rt:88:24
 shr-result : tie.Need-shr-result
 shr-result c = search needs
 
--- src/lib.rt:83:5
 returns : tie.Need-returns
 unfolding covers inSet
 returns c = simp codes (rw (c .before .word .ensures))

@@ -19,38 +19,30 @@ Inv-loop ecus n c₀ i₀ c i = (i ≤ n) × (n ≡ length ecus) × (withEcus c 
 abbrev μ-loop : tie.MeasureT-loop
 μ-loop ecus n c₀ i₀ c i = n - i
 
--- src/lib.rt:80:13
 empty-requires : tie.Need-empty-requires Inv-loop μ-loop
 empty-requires c κs = tt
 
--- src/lib.rt:82:9
 loop-holds : tie.Need-loop-holds Inv-loop μ-loop
 loop-holds c = (omega arith, omega arith, ap (λ (x : LockCoverage). withEcus x (c .before .before .args .ecus .now)) (c .empty .ensures))
 
--- src/lib.rt:83:21
 shared-slice-read-e : tie.Need-shared-slice-read-e Inv-loop μ-loop
 shared-slice-read-e c = omega arith
 
--- src/lib.rt:84:13
 add-i : tie.Need-add-i Inv-loop μ-loop
 add-i c = omega arith
 
--- src/lib.rt:85:13
 with-ecu-requires : tie.Need-with-ecu-requires Inv-loop μ-loop
 with-ecu-requires c κs = tt
 
--- src/lib.rt:82:9
 loop-less : tie.Need-loop-less Inv-loop μ-loop
 loop-less c = omega arith
 
--- src/lib.rt:82:9
 loop-again : tie.Need-loop-again Inv-loop μ-loop
 loop-again c =
     let l = c .before .before .before .loop in
     let es = c .before .before .before .before .before .before .args .ecus .now in
     (omega arith, omega arith, ap (λ (x : LockCoverage). withEcus x (drop (l .i + 1) es)) (c .with-ecu .ensures) ∙ sym (ecus-rest es (l .i) (l .c) (omega arith)) ∙ l .inv .2)
 
--- src/lib.rt:76:5
 returns : tie.Need-returns Inv-loop μ-loop
 returns c =
     let l = c .before .loop in

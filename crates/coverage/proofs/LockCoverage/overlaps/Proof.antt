@@ -5,7 +5,6 @@ use Rattle.coverage.proofs.LockCoverage.overlaps.Tie as tie
 use Rattle.coverage.proofs.LockCoverage.overlaps.Reads as reads
 use Rattle.coverage.proofs.LockCoverage.overlaps.Lts as lts
 
--- src/lib.rt:91:5
 returns : tie.Need-returns
 returns c = let p = c .before .before .before .before .before .before .before .before .before .before .args in overlaps-code (p .self) (p .other) (sized (p .self) (omega arith) (omega arith) (omega arith) (omega arith))
 

@@ -5,11 +5,9 @@ use Rattle.feed.proofs.events.still.Reads as reads
 use Rattle.feed.proofs.events.still.Lts as lts
 use Rattle.feed.proofs.events.plain.Reads as plain-reads
 
--- src/events.rt:84:15
 plain-requires : tie.Need-plain-requires
 plain-requires c κs = search needs
 
--- src/events.rt:80:1
 returns : tie.Need-returns
 returns c = rw (c .plain .ensures)
 

@@ -6,11 +6,9 @@ use Rattle.feed.proofs.turns.after.Reads as reads
 use Rattle.feed.proofs.turns.after.Lts as lts
 use Rattle.std.proofs.num.wrapping_add_u32.Reads as wrapping-add-u32-reads
 
--- src/turns.rt:17:5
 wrapping-add-u32-requires : tie.Need-wrapping-add-u32-requires
 wrapping-add-u32-requires c κs = search needs
 
--- src/turns.rt:14:1
 returns : tie.Need-returns
 unfolding after
 returns c = c .wrapping-add-u32 .ensures

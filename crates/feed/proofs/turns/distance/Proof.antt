@@ -7,11 +7,9 @@ use Rattle.feed.proofs.turns.distance.Reads as reads
 use Rattle.feed.proofs.turns.distance.Lts as lts
 use Rattle.std.proofs.num.wrapping_sub_u32.Reads as wrapping-sub-u32-reads
 
--- src/turns.rt:10:5
 wrapping-sub-u32-requires : tie.Need-wrapping-sub-u32-requires
 wrapping-sub-u32-requires c κs = search needs
 
--- src/turns.rt:7:1
 returns : tie.Need-returns
 returns c = distance-is (c .before .args .sequence) (c .before .args .expected) (c .wrapping-sub-u32 .result) (omega arith) (omega arith) (omega arith) (c .wrapping-sub-u32 .ensures)
 

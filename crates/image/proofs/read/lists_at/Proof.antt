@@ -14,63 +14,50 @@ use Rattle.image.proofs.read.defuncts_at.Reads as defuncts-at-reads
 use Rattle.image.proofs.read.is_done.Reads as is-done-reads
 use Rattle.image.proofs.read.refused.Reads as refused-reads
 
--- src/read.rt:165:19
 cast-actives : tie.Need-cast-actives
 cast-actives c = search needs
 
--- src/read.rt:166:20
 cast-defuncts : tie.Need-cast-defuncts
 cast-defuncts c = search needs
 
--- src/read.rt:167:9
 actives-at-requires : tie.Need-actives-at-requires
 actives-at-requires c κs = search needs
 
--- src/read.rt:169:9
 is-done-requires : tie.Need-is-done-requires
 is-done-requires c κs = search needs
 
--- src/read.rt:170:9
 refused-requires : tie.Need-refused-requires
 refused-requires c κs = search needs
 
--- src/read.rt:170:9
 returns : tie.Need-returns
 returns c = let a = c .before .before .before .before .before .before .before .args in
-    c .refused .ensures ∙ ap imaged (sym (active-failed (now (a .image)) (a .h) (a .at) (c .before .before .before .actives-at .result) (c .before .before .before .actives-at .ensures) (sym (c .before .before .is-done .ensures) ∙ not-true _ (c .before .if1 .taken))))
+    c .refused .ensures ∙ ap imaged (sym (active-failed (a .strict) (now (a .image)) (a .h) (a .at) (c .before .before .before .actives-at .result) (c .before .before .before .actives-at .ensures) (sym (c .before .before .is-done .ensures) ∙ not-true _ (c .before .if1 .taken))))
 
--- src/read.rt:172:9
 defuncts-at-requires : tie.Need-defuncts-at-requires
 defuncts-at-requires c κs = search needs
 
--- src/read.rt:174:9
 is-done-requires-2 : tie.Need-is-done-requires-2
 is-done-requires-2 c κs = search needs
 
--- src/read.rt:175:9
 refused-requires-2 : tie.Need-refused-requires-2
 refused-requires-2 c κs = search needs
 
--- src/read.rt:175:9
 returns-2 : tie.Need-returns-2
 returns-2 c = let a = c .before .before .before .before .before .before .before .before .before .before .args in
-    c .refused2 .ensures ∙ ap imaged (sym (defunct-failed (now (a .image)) (a .h) (a .at) (c .before .before .before .before .before .before .actives-at .result) (c .before .before .before .before .before .before .actives-at .ensures) (sym (c .before .before .before .before .before .is-done .ensures) ∙ not-false _ (c .before .before .before .before .if1 .left))
+    c .refused2 .ensures ∙ ap imaged (sym (defunct-failed (a .strict) (now (a .image)) (a .h) (a .at) (c .before .before .before .before .before .before .actives-at .result) (c .before .before .before .before .before .before .actives-at .ensures) (sym (c .before .before .before .before .before .is-done .ensures) ∙ not-false _ (c .before .before .before .before .if1 .left))
     (c .before .before .before .defuncts-at .result) (c .before .before .before .defuncts-at .ensures) (sym (c .before .before .is-done2 .ensures) ∙ not-true _ (c .before .if2 .taken))))
 
--- src/read.rt:179:9
 refused-requires-3 : tie.Need-refused-requires-3
 refused-requires-3 c κs = search needs
 
--- src/read.rt:179:9
 returns-3 : tie.Need-returns-3
 returns-3 c = let a = c .before .before .before .before .before .before .before .before .before .before .before .args in
-    c .refused3 .ensures ∙ ap imaged (sym (extra (now (a .image)) (a .h) (a .at) (c .before .before .before .before .before .before .before .actives-at .result) (c .before .before .before .before .before .before .before .actives-at .ensures) (sym (c .before .before .before .before .before .before .is-done .ensures) ∙ not-false _ (c .before .before .before .before .before .if1 .left))
+    c .refused3 .ensures ∙ ap imaged (sym (extra (a .strict) (now (a .image)) (a .h) (a .at) (c .before .before .before .before .before .before .before .actives-at .result) (c .before .before .before .before .before .before .before .actives-at .ensures) (sym (c .before .before .before .before .before .before .is-done .ensures) ∙ not-false _ (c .before .before .before .before .before .if1 .left))
     (c .before .before .before .before .defuncts-at .result) (c .before .before .before .before .defuncts-at .ensures) (sym (c .before .before .before .is-done2 .ensures) ∙ not-false _ (c .before .before .if2 .left)) (c .before .if3 .taken)))
 
--- src/read.rt:161:1
 returns-4 : tie.Need-returns-4
 returns-4 c = let a = c .before .before .before .before .before .before .before .before .before .before .before .before .args in
-    all-read (now (a .image)) (a .h) (a .at) (c .before .before .before .before .before .before .before .before .actives-at .result) (c .before .before .before .before .before .before .before .before .actives-at .ensures) (sym (c .before .before .before .before .before .before .before .is-done .ensures) ∙ not-false _ (c .before .before .before .before .before .before .if1 .left))
+    all-read (a .strict) (now (a .image)) (a .h) (a .at) (c .before .before .before .before .before .before .before .before .actives-at .result) (c .before .before .before .before .before .before .before .before .actives-at .ensures) (sym (c .before .before .before .before .before .before .before .is-done .ensures) ∙ not-false _ (c .before .before .before .before .before .before .if1 .left))
     (c .before .before .before .before .before .defuncts-at .result) (c .before .before .before .before .before .defuncts-at .ensures) (sym (c .before .before .before .before .is-done2 .ensures) ∙ not-false _ (c .before .before .before .if2 .left)) (c .before .before .if3 .left)
 
 pub lists-at-spec : {M : Type 1} → statement M

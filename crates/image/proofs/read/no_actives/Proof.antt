@@ -9,11 +9,9 @@ use Rattle.image.proofs.read.no_actives.Reads as reads
 use Rattle.image.proofs.read.no_actives.Lts as lts
 use Rattle.state.proofs.blank_active.Reads as blank-active-reads
 
--- src/read.rt:64:17
 blank-active-requires : tie.Need-blank-active-requires
 blank-active-requires c κs = search needs
 
--- src/read.rt:58:1
 returns : tie.Need-returns
 returns c = ap (λ (x : ActiveLock). record { told = c .before .args .why; at = 0; locks = replicate 64 x }) (c .blank-active .ensures)
 

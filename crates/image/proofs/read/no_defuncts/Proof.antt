@@ -9,11 +9,9 @@ use Rattle.image.proofs.read.no_defuncts.Reads as reads
 use Rattle.image.proofs.read.no_defuncts.Lts as lts
 use Rattle.state.proofs.blank_defunct.Reads as blank-defunct-reads
 
--- src/read.rt:74:17
 blank-defunct-requires : tie.Need-blank-defunct-requires
 blank-defunct-requires c κs = search needs
 
--- src/read.rt:68:1
 returns : tie.Need-returns
 returns c = ap (λ (x : DefunctLock). record { told = c .before .args .why; at = 0; locks = replicate 128 x }) (c .blank-defunct .ensures)
 

@@ -13,39 +13,30 @@ use Rattle.image.proofs.read.read_records.Reads as read-records-reads
 use Rattle.image.proofs.read.refused.Reads as refused-reads
 use Rattle.rules.proofs.broken.Reads as broken-reads
 
--- src/read.rt:216:9
 read-records-requires : tie.Need-read-records-requires
 read-records-requires c κs = search needs
 
--- src/read.rt:218:9
 is-done-requires : tie.Need-is-done-requires
 is-done-requires c κs = search needs
 
--- src/read.rt:219:9
 returns : tie.Need-returns
 returns c = not-tested (now (c .before .before .before .before .args .image)) (c .before .before .read-records .result) (c .before .before .read-records .ensures) (sym (c .before .is-done .ensures) ∙ not-true _ (c .if1 .taken))
 
--- src/read.rt:223:11
 broken-requires : tie.Need-broken-requires
 broken-requires c κs = search needs
 
--- src/read.rt:224:27
 enum-told : tie.Need-enum-told
 enum-told c = search needs
 
--- src/read.rt:225:25
 enum-known-n : tie.Need-enum-known-n
 enum-known-n c = search needs
 
--- src/read.rt:225:31
 refused-requires : tie.Need-refused-requires
 refused-requires c κs = search needs
 
--- src/read.rt:213:1
 returns-2 : tie.Need-returns-2
 returns-2 c = ap (judged (c .before .before .before .before .before .before .before .read-records .result)) (sym (c .enum-told .given .1)) ∙ judged-by (now (c .before .before .before .before .before .before .before .before .before .args .image)) (c .before .before .before .before .before .before .before .read-records .result) (c .before .before .before .before .before .before .before .read-records .ensures) _ (sym (c .before .before .before .before .before .before .is-done .ensures) ∙ not-false _ (c .before .before .before .before .before .if1 .left)) (c .before .before .broken .ensures)
 
--- src/read.rt:213:1
 returns-3 : tie.Need-returns-3
 returns-3 c = c .refused .ensures ∙ ap (judged (c .before .before .before .before .before .before .before .before .before .read-records .result)) (sym (c .before .before .n .given .1)) ∙ judged-by (now (c .before .before .before .before .before .before .before .before .before .before .before .args .image)) (c .before .before .before .before .before .before .before .before .before .read-records .result) (c .before .before .before .before .before .before .before .before .before .read-records .ensures) _ (sym (c .before .before .before .before .before .before .before .before .is-done .ensures) ∙ not-false _ (c .before .before .before .before .before .before .before .if1 .left)) (c .before .before .before .before .broken .ensures)
 

@@ -8,11 +8,9 @@ use Rattle.image.proofs.read.refused.Reads as reads
 use Rattle.image.proofs.read.refused.Lts as lts
 use Rattle.state.proofs.LockState.empty.Reads as empty-reads
 
--- src/read.rt:52:20
 empty-requires : tie.Need-empty-requires
 empty-requires c κs = search needs
 
--- src/read.rt:46:1
 returns : tie.Need-returns
 returns c = ap (λ (x : LockState). record { told = c .before .args .why; spare = record { state = x; expected = 0 } }) (c .empty .ensures)
 

@@ -6,11 +6,9 @@ use Rattle.image.proofs.write.at_most.Tie as tie
 use Rattle.image.proofs.write.at_most.Reads as reads
 use Rattle.image.proofs.write.at_most.Lts as lts
 
--- src/write.rt:80:9
 returns : tie.Need-returns
 returns c = sym (cond-true _ _ _ (lt-ltb _ _ (c .if1 .taken)))
 
--- src/write.rt:76:1
 returns-2 : tie.Need-returns-2
 returns-2 c = sym (cond-false _ _ _ (le-ltb _ _ (c .if1 .left)))
 

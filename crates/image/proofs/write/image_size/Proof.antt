@@ -8,31 +8,24 @@ use Rattle.image.proofs.write.image_size.Reads as reads
 use Rattle.image.proofs.write.image_size.Lts as lts
 use Rattle.image.proofs.write.at_most.Reads as at-most-reads
 
--- src/write.rt:90:9
 at-most-requires : tie.Need-at-most-requires
 at-most-requires c κs = search needs
 
--- src/write.rt:91:9
 at-most-requires-2 : tie.Need-at-most-requires-2
 at-most-requires-2 c κs = search needs
 
--- src/write.rt:92:10
 mul-result : tie.Need-mul-result
 mul-result c = omega (arith, cap-small (c .before .before .before .args .spare .state .defuncts) 128 (c .at-most2 .result) (c .at-most2 .ensures), cap-small (c .before .before .before .args .spare .state .actives) 64 (c .before .at-most .result) (c .before .at-most .ensures))
 
--- src/write.rt:92:5
 add-result : tie.Need-add-result
 add-result c = omega (arith, cap-small (c .before .before .before .args .spare .state .defuncts) 128 (c .at-most2 .result) (c .at-most2 .ensures), cap-small (c .before .before .before .args .spare .state .actives) 64 (c .before .at-most .result) (c .before .at-most .ensures))
 
--- src/write.rt:92:25
 mul-result-2 : tie.Need-mul-result-2
 mul-result-2 c = omega (arith, cap-small (c .before .before .before .args .spare .state .defuncts) 128 (c .at-most2 .result) (c .at-most2 .ensures), cap-small (c .before .before .before .args .spare .state .actives) 64 (c .before .at-most .result) (c .before .at-most .ensures))
 
--- src/write.rt:92:5
 add-result-2 : tie.Need-add-result-2
 add-result-2 c = omega (arith, cap-small (c .before .before .before .args .spare .state .defuncts) 128 (c .at-most2 .result) (c .at-most2 .ensures), cap-small (c .before .before .before .args .spare .state .actives) 64 (c .before .at-most .result) (c .before .at-most .ensures))
 
--- src/write.rt:86:1
 returns : tie.Need-returns
 returns c = size-of (c .before .before .before .args .spare) _ _ (search (needs, length-of-mapped)) (search (needs, length-of-mapped)) (c .before .at-most .ensures) (c .at-most2 .ensures)
 

@@ -21,50 +21,39 @@ Inv-loop out₀ from n locks i₀ out i = Put (bytesOfOne activeList) 91 (length
 abbrev μ-loop : tie.MeasureT-loop
 μ-loop out₀ from n locks i₀ out i = n - i
 
--- src/write.rt:21:5
 loop-holds : tie.Need-loop-holds Inv-loop μ-loop
 loop-holds c = let a = c .before .args in starts (bytesOfOne activeList) 91 (length-one activeList active-plain) (now (a .out)) (a .from) (a .n) (a .t3) (omega (arith, c .before .pre .1))
 
--- src/write.rt:22:17
 mul-a : tie.Need-mul-a Inv-loop μ-loop
 mul-a c = search needs
 
--- src/write.rt:22:17
 array-copy-out-a : tie.Need-array-copy-out-a Inv-loop μ-loop
 array-copy-out-a c = search needs
 
--- src/write.rt:23:41
 mul-put-active : tie.Need-mul-put-active Inv-loop μ-loop
 mul-put-active c = search needs
 
--- src/write.rt:23:34
 add-put-active : tie.Need-add-put-active Inv-loop μ-loop
 add-put-active c = search needs
 
--- src/write.rt:23:9
 put-active-requires : tie.Need-put-active-requires Inv-loop μ-loop
 put-active-requires c κs = search needs
 
--- src/write.rt:24:9
 add-i : tie.Need-add-i Inv-loop μ-loop
 add-i c = search needs
 
--- src/write.rt:21:5
 loop-less : tie.Need-loop-less Inv-loop μ-loop
 loop-less c = search needs
 
--- src/write.rt:21:5
 loop-again : tie.Need-loop-again Inv-loop μ-loop
 unfolding blankActive
 loop-again c = let a = c .before .before .before .before .before .before .before .before .args in let l = c .before .before .before .before .before .before .loop in
     let e : length (a .t3) ≡ 64 = search (needs, length-of-mapped) in
     turns (bytesOfOne activeList) 91 (length-one activeList active-plain) (now (a .out)) (a .from) (a .n) (a .t3) (omega (arith, c .before .before .before .before .before .before .before .before .pre .0)) (c .before .before .before .before .before .before .before .before .pre .1) blankActive (l .out) (c .before .before .put-active .last .0) (l .i) (c .before .before .before .before .before .loop-test .taken) (l .inv) (c .before .before .put-active .ensures)
 
--- src/write.rt:16:1
 same-length : tie.Need-same-length Inv-loop μ-loop
 same-length c = search needs
 
--- src/write.rt:16:1
 returns : tie.Need-returns Inv-loop μ-loop
 returns c = let a = c .before .before .before .args in let l = c .before .loop in
     let e : length (a .t3) ≡ 64 = search (needs, length-of-mapped) in

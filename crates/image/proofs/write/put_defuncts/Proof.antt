@@ -21,50 +21,39 @@ Inv-loop out₀ from n locks i₀ out i = Put (bytesOfOne defunctList) 104 (leng
 abbrev μ-loop : tie.MeasureT-loop
 μ-loop out₀ from n locks i₀ out i = n - i
 
--- src/write.rt:33:5
 loop-holds : tie.Need-loop-holds Inv-loop μ-loop
 loop-holds c = let a = c .before .args in starts (bytesOfOne defunctList) 104 (length-one defunctList defunct-plain) (now (a .out)) (a .from) (a .n) (a .t3) (omega (arith, c .before .pre .1))
 
--- src/write.rt:34:17
 mul-d : tie.Need-mul-d Inv-loop μ-loop
 mul-d c = search needs
 
--- src/write.rt:34:17
 array-copy-out-d : tie.Need-array-copy-out-d Inv-loop μ-loop
 array-copy-out-d c = search needs
 
--- src/write.rt:35:42
 mul-put-defunct : tie.Need-mul-put-defunct Inv-loop μ-loop
 mul-put-defunct c = search needs
 
--- src/write.rt:35:35
 add-put-defunct : tie.Need-add-put-defunct Inv-loop μ-loop
 add-put-defunct c = search needs
 
--- src/write.rt:35:9
 put-defunct-requires : tie.Need-put-defunct-requires Inv-loop μ-loop
 put-defunct-requires c κs = search needs
 
--- src/write.rt:36:9
 add-i : tie.Need-add-i Inv-loop μ-loop
 add-i c = search needs
 
--- src/write.rt:33:5
 loop-less : tie.Need-loop-less Inv-loop μ-loop
 loop-less c = search needs
 
--- src/write.rt:33:5
 loop-again : tie.Need-loop-again Inv-loop μ-loop
 unfolding blankDefunct
 loop-again c = let a = c .before .before .before .before .before .before .before .before .args in let l = c .before .before .before .before .before .before .loop in
     let e : length (a .t3) ≡ 128 = search (needs, length-of-mapped) in
     turns (bytesOfOne defunctList) 104 (length-one defunctList defunct-plain) (now (a .out)) (a .from) (a .n) (a .t3) (omega (arith, c .before .before .before .before .before .before .before .before .pre .0)) (c .before .before .before .before .before .before .before .before .pre .1) blankDefunct (l .out) (c .before .before .put-defunct .last .0) (l .i) (c .before .before .before .before .before .loop-test .taken) (l .inv) (c .before .before .put-defunct .ensures)
 
--- src/write.rt:28:1
 same-length : tie.Need-same-length Inv-loop μ-loop
 same-length c = search needs
 
--- src/write.rt:28:1
 returns : tie.Need-returns Inv-loop μ-loop
 returns c = let a = c .before .before .before .args in let l = c .before .loop in
     let e : length (a .t3) ≡ 128 = search (needs, length-of-mapped) in

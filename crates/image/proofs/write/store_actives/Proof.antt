@@ -16,27 +16,21 @@ use Rattle.image.proofs.write.put_actives.Reads as put-actives-reads
 count : (c : tie.After-at-most) → Capped (c .before .before .args .locks) (c .before .before .args .n) 64 (c .at-most .result)
 count c = capped _ _ _ _ (search (needs, length-of-mapped)) (c .at-most .ensures)
 
--- src/write.rt:99:9
 at-most-requires : tie.Need-at-most-requires
 at-most-requires c κs = search needs
 
--- src/write.rt:100:20
 mul-if1 : tie.Need-mul-if1
 mul-if1 c = omega (arith, count c .small)
 
--- src/write.rt:101:9
 returns : tie.Need-returns
 returns c = not-stored (bytesOfOne activeList) 91 (length-one activeList active-plain) _ _ _ _ _ (count (c .before)) (c .if1 .taken)
 
--- src/write.rt:103:5
 put-actives-requires : tie.Need-put-actives-requires
 put-actives-requires c κs = omega (arith, count (c .before .before) .small, c .before .if1 .left)
 
--- src/write.rt:96:1
 same-length : tie.Need-same-length
 same-length c = search needs
 
--- src/write.rt:96:1
 returns-2 : tie.Need-returns-2
 returns-2 c = all-stored (bytesOfOne activeList) 91 (length-one activeList active-plain) _ _ _ _ _ (count (c .before .before .before .before .before)) (c .before .before .before .before .if1 .left) _ (c .before .before .put-actives .ensures)
 

@@ -21,66 +21,51 @@ use Rattle.rules.proofs.broken.Reads as broken-reads
 tidied : (c : tie.After-enum-told) → Tidy (c .before .before .before .before .before .args .spare .state)
 tidied c = tidy-of-sound (c .before .before .before .before .before .args .spare .state) (search (needs, length-of-mapped)) (search (needs, length-of-mapped)) (sym (c .before .before .broken .ensures) ∙ c .enum-told .given .1)
 
--- src/write.rt:45:11
 broken-requires : tie.Need-broken-requires
 broken-requires c κs = search needs
 
--- src/write.rt:46:25
 enum-known-n : tie.Need-enum-known-n
 enum-known-n c = search needs
 
--- src/write.rt:47:13
 returns : tie.Need-returns
 returns c = unsound (c .before .before .before .before .before .before .args .spare) (now (c .before .before .before .before .before .before .args .out)) (c .before .before .before .broken .result) (c .before .before .before .broken .ensures) _ (c .before .n .given .1)
 
 enum-told : tie.Need-enum-told
 enum-told c = search needs
 
--- src/write.rt:53:23
 mul-second : tie.Need-mul-second
 mul-second c = omega (arith, tidied c .active, tidied c .defunct)
 
--- src/write.rt:53:18
 add-second : tie.Need-add-second
 add-second c = omega (arith, tidied c .active, tidied c .defunct)
 
--- src/write.rt:54:27
 mul-needed : tie.Need-mul-needed
 mul-needed c = omega (arith, tidied c .active, tidied c .defunct)
 
--- src/write.rt:54:18
 add-needed : tie.Need-add-needed
 add-needed c = omega (arith, tidied c .active, tidied c .defunct)
 
--- src/write.rt:56:9
 returns-2 : tie.Need-returns-2
 returns-2 c = short (c .before .before .before .before .before .before .args .spare) (now (c .before .before .before .before .before .before .args .out)) (c .before .before .before .broken .result) (c .before .before .before .broken .ensures) (c .before .enum-told .given .1) (tidied (c .before)) (c .if1 .taken)
 
--- src/write.rt:61:18
 cast-t15 : tie.Need-cast-t15
 cast-t15 c = omega (arith, tidied (c .before) .active, tidied (c .before) .defunct)
 
--- src/write.rt:62:19
 cast-t16 : tie.Need-cast-t16
 cast-t16 c = omega (arith, tidied (c .before) .active, tidied (c .before) .defunct)
 
--- src/write.rt:64:5
 put-head-requires : tie.Need-put-head-requires
 put-head-requires c κs = search needs
 
--- src/write.rt:66:5
 put-actives-requires : tie.Need-put-actives-requires
 put-actives-requires c κs = omega (arith, tidied (c .before .before .before .before .before .before .before) .active, c .before .before .before .before .before .before .if1 .left)
 
--- src/write.rt:68:5
 put-defuncts-requires : tie.Need-put-defuncts-requires
 put-defuncts-requires c κs = omega (arith, tidied (c .before .before .before .before .before .before .before .before .before .before .before .before) .defunct, c .before .before .before .before .before .before .before .before .before .before .before .if1 .left)
 
--- src/write.rt:41:1
 same-length : tie.Need-same-length
 same-length c = search needs
 
--- src/write.rt:41:1
 returns-3 : tie.Need-returns-3
 returns-3 c = whole (c .before .before .before .before .before .before .before .before .before .before .before .before .before .before .before .before .before .before .before .before .args .spare) (now (c .before .before .before .before .before .before .before .before .before .before .before .before .before .before .before .before .before .before .before .before .args .out)) (c .before .before .before .before .before .before .before .before .before .before .before .before .before .before .before .before .before .broken .result) (c .before .before .before .before .before .before .before .before .before .before .before .before .before .before .before .before .before .broken .ensures) (c .before .before .before .before .before .before .before .before .before .before .before .before .before .before .before .enum-told .given .1) (tidied (c .before .before .before .before .before .before .before .before .before .before .before .before .before .before .before)) (c .before .before .before .before .before .before .before .before .before .before .before .before .before .before .if1 .left)
     (c .before .before .before .before .before .before .before .before .before .before .before .before .put-head .last .0) (c .before .before .before .before .before .before .before .put-actives .last .0) (c .before .before .put-defuncts .last .0) (c .before .before .before .before .before .before .before .before .before .before .before .before .put-head .ensures) (c .before .before .before .before .before .before .before .put-actives .ensures) (c .before .before .put-defuncts .ensures)

@@ -7,23 +7,18 @@ use Rattle.look.proofs.text.digit.Tie as tie
 use Rattle.look.proofs.text.digit.Reads as reads
 use Rattle.look.proofs.text.digit.Lts as lts
 
--- src/text.rt:14:13
 cast-d : tie.Need-cast-d
 cast-d c = search needs
 
--- src/text.rt:16:16
 add-result : tie.Need-add-result
 add-result c = search needs
 
--- src/text.rt:16:9
 returns : tie.Need-returns
 returns c = rw (lt-ltb (c .before .args .x % 16) 10 (c .if1 .taken))
 
--- src/text.rt:18:5
 add-result-2 : tie.Need-add-result-2
 add-result-2 c = search needs
 
--- src/text.rt:11:1
 returns-2 : tie.Need-returns-2
 returns-2 c = rw (le-ltb (c .before .args .x % 16) 10 (c .if1 .left))
 

@@ -16,35 +16,27 @@ Inv-loop c from inside e₀ e = edgeOf c inside e ≡ edgeOf c inside from
 abbrev μ-loop : tie.MeasureT-loop
 μ-loop c from inside e₀ e = 256 - e
 
--- src/text.rt:79:5
 loop-holds : tie.Need-loop-holds Inv-loop μ-loop
 loop-holds c = search needs
 
--- src/text.rt:80:23
 cast-is-edge : tie.Need-cast-is-edge Inv-loop μ-loop
 cast-is-edge c = search needs
 
--- src/text.rt:80:12
 is-edge-requires : tie.Need-is-edge-requires Inv-loop μ-loop
 is-edge-requires c κs = search needs
 
--- src/text.rt:81:13
 returns : tie.Need-returns Inv-loop μ-loop
 returns c = search (edge-here, needs)
 
--- src/text.rt:83:9
 add-e : tie.Need-add-e Inv-loop μ-loop
 add-e c = search needs
 
--- src/text.rt:79:5
 loop-less : tie.Need-loop-less Inv-loop μ-loop
 loop-less c = search needs
 
--- src/text.rt:79:5
 loop-again : tie.Need-loop-again Inv-loop μ-loop
 loop-again c = search (edge-on, needs)
 
--- src/text.rt:75:1
 returns-2 : tie.Need-returns-2 Inv-loop μ-loop
 returns-2 c = search (edge-end, needs)
 

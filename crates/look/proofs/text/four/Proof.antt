@@ -7,23 +7,18 @@ use Rattle.look.proofs.text.four.Reads as reads
 use Rattle.look.proofs.text.four.Lts as lts
 use Rattle.look.proofs.text.digit.Reads as digit-reads
 
--- src/text.rt:25:6
 digit-requires : tie.Need-digit-requires
 digit-requires c κs = search needs
 
--- src/text.rt:25:22
 digit-requires-2 : tie.Need-digit-requires-2
 digit-requires-2 c κs = search needs
 
--- src/text.rt:25:37
 digit-requires-3 : tie.Need-digit-requires-3
 digit-requires-3 c κs = search needs
 
--- src/text.rt:25:52
 digit-requires-4 : tie.Need-digit-requires-4
 digit-requires-4 c κs = search needs
 
--- src/text.rt:22:1
 returns : tie.Need-returns
 unfolding fourOf
 returns c = rw (c .before .before .before .digit .ensures, c .before .before .digit2 .ensures, c .before .digit3 .ensures, c .digit4 .ensures)

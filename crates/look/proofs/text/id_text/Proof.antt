@@ -7,167 +7,126 @@ use Rattle.look.proofs.text.id_text.Reads as reads
 use Rattle.look.proofs.text.id_text.Lts as lts
 use Rattle.look.proofs.text.four.Reads as four-reads
 
--- src/text.rt:34:13
 four-requires : tie.Need-four-requires
 four-requires c κs = search needs
 
--- src/text.rt:35:13
 four-requires-2 : tie.Need-four-requires-2
 four-requires-2 c κs = search needs
 
--- src/text.rt:36:13
 four-requires-3 : tie.Need-four-requires-3
 four-requires-3 c κs = search needs
 
--- src/text.rt:37:13
 four-requires-4 : tie.Need-four-requires-4
 four-requires-4 c κs = search needs
 
--- src/text.rt:38:13
 four-requires-5 : tie.Need-four-requires-5
 four-requires-5 c κs = search needs
 
--- src/text.rt:39:13
 four-requires-6 : tie.Need-four-requires-6
 four-requires-6 c κs = search needs
 
--- src/text.rt:40:13
 four-requires-7 : tie.Need-four-requires-7
 four-requires-7 c κs = search needs
 
--- src/text.rt:41:13
 four-requires-8 : tie.Need-four-requires-8
 four-requires-8 c κs = search needs
 
--- src/text.rt:43:9
 array-read-t16 : tie.Need-array-read-t16
 array-read-t16 c = search needs
 
--- src/text.rt:44:9
 array-read-t19 : tie.Need-array-read-t19
 array-read-t19 c = search needs
 
--- src/text.rt:45:9
 array-read-t22 : tie.Need-array-read-t22
 array-read-t22 c = search needs
 
--- src/text.rt:46:9
 array-read-t25 : tie.Need-array-read-t25
 array-read-t25 c = search needs
 
--- src/text.rt:47:9
 array-read-t28 : tie.Need-array-read-t28
 array-read-t28 c = search needs
 
--- src/text.rt:48:9
 array-read-t31 : tie.Need-array-read-t31
 array-read-t31 c = search needs
 
--- src/text.rt:49:9
 array-read-t34 : tie.Need-array-read-t34
 array-read-t34 c = search needs
 
--- src/text.rt:50:9
 array-read-t37 : tie.Need-array-read-t37
 array-read-t37 c = search needs
 
--- src/text.rt:52:9
 array-read-t40 : tie.Need-array-read-t40
 array-read-t40 c = search needs
 
--- src/text.rt:53:9
 array-read-t43 : tie.Need-array-read-t43
 array-read-t43 c = search needs
 
--- src/text.rt:54:9
 array-read-t46 : tie.Need-array-read-t46
 array-read-t46 c = search needs
 
--- src/text.rt:55:9
 array-read-t49 : tie.Need-array-read-t49
 array-read-t49 c = search needs
 
--- src/text.rt:57:9
 array-read-t52 : tie.Need-array-read-t52
 array-read-t52 c = search needs
 
--- src/text.rt:58:9
 array-read-t55 : tie.Need-array-read-t55
 array-read-t55 c = search needs
 
--- src/text.rt:59:9
 array-read-t58 : tie.Need-array-read-t58
 array-read-t58 c = search needs
 
--- src/text.rt:60:9
 array-read-t61 : tie.Need-array-read-t61
 array-read-t61 c = search needs
 
--- src/text.rt:62:9
 array-read-t64 : tie.Need-array-read-t64
 array-read-t64 c = search needs
 
--- src/text.rt:63:9
 array-read-t67 : tie.Need-array-read-t67
 array-read-t67 c = search needs
 
--- src/text.rt:64:9
 array-read-t70 : tie.Need-array-read-t70
 array-read-t70 c = search needs
 
--- src/text.rt:65:9
 array-read-t73 : tie.Need-array-read-t73
 array-read-t73 c = search needs
 
--- src/text.rt:67:9
 array-read-t76 : tie.Need-array-read-t76
 array-read-t76 c = search needs
 
--- src/text.rt:68:9
 array-read-t79 : tie.Need-array-read-t79
 array-read-t79 c = search needs
 
--- src/text.rt:69:9
 array-read-t82 : tie.Need-array-read-t82
 array-read-t82 c = search needs
 
--- src/text.rt:70:9
 array-read-t85 : tie.Need-array-read-t85
 array-read-t85 c = search needs
 
--- src/text.rt:71:9
 array-read-t88 : tie.Need-array-read-t88
 array-read-t88 c = search needs
 
--- src/text.rt:72:9
 array-read-t91 : tie.Need-array-read-t91
 array-read-t91 c = search needs
 
--- src/text.rt:73:9
 array-read-t94 : tie.Need-array-read-t94
 array-read-t94 c = search needs
 
--- src/text.rt:74:9
 array-read-t97 : tie.Need-array-read-t97
 array-read-t97 c = search needs
 
--- src/text.rt:75:9
 array-read-t100 : tie.Need-array-read-t100
 array-read-t100 c = search needs
 
--- src/text.rt:76:9
 array-read-t103 : tie.Need-array-read-t103
 array-read-t103 c = search needs
 
--- src/text.rt:77:9
 array-read-t106 : tie.Need-array-read-t106
 array-read-t106 c = search needs
 
--- src/text.rt:78:9
 array-read-t109 : tie.Need-array-read-t109
 array-read-t109 c = search needs
 
--- src/text.rt:29:1
 returns : tie.Need-returns
 returns c = spelled (c .before .before .before .before .before .before .before .before .args .id) (c .before .before .before .before .before .before .before .four .ensures) (c .before .before .before .before .before .before .four2 .ensures) (c .before .before .before .before .before .four3 .ensures) (c .before .before .before .before .four4 .ensures) (c .before .before .before .four5 .ensures) (c .before .before .four6 .ensures) (c .before .four7 .ensures) (c .four8 .ensures)
 

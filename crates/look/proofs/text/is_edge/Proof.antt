@@ -8,16 +8,13 @@ use Rattle.look.proofs.text.is_edge.Reads as reads
 use Rattle.look.proofs.text.is_edge.Lts as lts
 use Rattle.coverage.proofs.LockCoverage.contains_ecu.Reads as contains-ecu-reads
 
--- src/text.rt:67:9
 contains-ecu-requires : tie.Need-contains-ecu-requires
 contains-ecu-requires c κs = search needs
 
--- src/text.rt:69:9
 returns : tie.Need-returns
 unfolding isEdge
 returns c = rw (c .if1 .taken) (c .before .contains-ecu .ensures)
 
--- src/text.rt:64:1
 returns-2 : tie.Need-returns-2
 unfolding isEdge
 returns-2 c = simp codes (rw (c .if1 .left, c .before .contains-ecu .ensures))

@@ -8,7 +8,7 @@ use Rattle.operations.proofs.Inserting.{ready}
 use Rattle.operations.proofs.Shedding as laws
 use mathlib.Core.Bool.{Bool}
 use borrow.Author.Tests.{not-true, not-false}
-use Rattle.operations.specs.Table.{removeD}
+use Rattle.operations.specs.Defuncts.{removeD}
 use Rattle.operations.specs.Acknowledge.{acknowledgeOn}
 use Rattle.operations.proofs.Leaving.{remove-le}
 use borrow.Author.Needs.{needs}
@@ -19,8 +19,8 @@ use Rattle.operations.proofs.acknowledge.acknowledge_defunct.Lts as lts
 use Rattle.operations.proofs.checks.id_defunct.Reads as id-defunct-reads
 use Rattle.operations.proofs.acknowledge.settle.Reads as settle-reads
 use Rattle.operations.proofs.acknowledge.with_entries.Reads as with-entries-reads
-use Rattle.operations.proofs.table.splice.Reads as splice-reads
-use Rattle.operations.proofs.table.widened.Reads as widened-reads
+use Rattle.operations.proofs.defuncts.splice.Reads as splice-reads
+use Rattle.operations.proofs.defuncts.widened.Reads as widened-reads
 use Rattle.rules.proofs.broken.Reads as broken-reads
 
 -- what the test of the state told
@@ -30,15 +30,12 @@ tested c = sym (c .before .before .broken .ensures) ∙ c .enum-told .given .1
 fit : (c : tie.After-enum-told) → Ready (c .before .before .before .args .s)
 fit c = ready (c .before .before .before .args .s) (search (needs, length-of-mapped)) (search (needs, length-of-mapped)) (tested c)
 
--- src/acknowledge.rt:83:9
 broken-requires : tie.Need-broken-requires
 broken-requires c κs = search needs
 
--- src/acknowledge.rt:84:28
 enum-known-v : tie.Need-enum-known-v
 enum-known-v c = search needs
 
--- src/acknowledge.rt:85:9
 returns : tie.Need-returns
 unfolding acknowledgeOn
 returns c = on-broken _ _ _ _ _ (c .before .before .before .broken .ensures) (c .before .v .given .1)
@@ -46,34 +43,27 @@ returns c = on-broken _ _ _ _ _ (c .before .before .before .broken .ensures) (c 
 enum-told : tie.Need-enum-told
 enum-told c = search needs
 
--- src/acknowledge.rt:91:9
 id-defunct-requires : tie.Need-id-defunct-requires
 id-defunct-requires c κs = fit (c .before) .tidy .defunct
 
--- src/acknowledge.rt:92:9
 returns-2 : tie.Need-returns-2
 returns-2 c = laws.absent _ (tested (c .before .before .before)) _ _ (c .before .id-defunct .ensures) (not-true _ (c .if1 .taken))
 
--- src/acknowledge.rt:97:9
 widened-requires : tie.Need-widened-requires
 widened-requires c κs = fit (c .before .before .before) .tidy .defunct
 
--- src/acknowledge.rt:98:9
 splice-requires : tie.Need-splice-requires
 splice-requires c κs = let b = c .before .before .before .before in laws.ranked _ (fit b .tidy) _ (c .widened .ensures) (fit b .order)
 
--- src/acknowledge.rt:99:9
 with-entries-requires : tie.Need-with-entries-requires
 with-entries-requires c κs =
     let b = c .before .before .before .before .before in
     let a = b .before .before .before .args in
     (fit b .tidy, laws.left-room _ (fit b .tidy) _ (c .before .widened .ensures) (removeD (a .id)) (remove-le (a .id)) _ (c .splice .ensures))
 
--- src/acknowledge.rt:100:5
 settle-requires : tie.Need-settle-requires
 settle-requires c κs = search needs
 
--- src/acknowledge.rt:80:1
 returns-3 : tie.Need-returns-3
 returns-3 c =
     let b = c .before .before .before .before .before .before .before in

@@ -10,7 +10,7 @@ use mathlib.Core.List.{List}
 use Prim.Native.Nat.{ℕ}
 use Rattle.lists.specs.Lists.{filter}
 use Rattle.state.specs.declared.DefunctLock.{DefunctLock}
-use Rattle.operations.specs.Table.{removeAll}
+use Rattle.operations.specs.Defuncts.{removeAll}
 use Rattle.operations.specs.Acknowledge.{lapsed, expireDefunctOn}
 use Rattle.operations.proofs.Leaving.{removeAll-le}
 use borrow.Author.Needs.{needs}
@@ -23,7 +23,7 @@ use Rattle.operations.proofs.acknowledge.none_shed.Reads as none-shed-r
 use Rattle.operations.proofs.acknowledge.settle_shed.Reads as settle-shed-reads
 use Rattle.operations.proofs.acknowledge.with_entries.Reads as with-entries-reads
 use Rattle.operations.proofs.acknowledge.without_lapsed.Reads as without-lapsed-reads
-use Rattle.operations.proofs.table.widened.Reads as widened-reads
+use Rattle.operations.proofs.defuncts.widened.Reads as widened-reads
 use Rattle.rules.proofs.broken.Reads as broken-reads
 
 -- what the test of the state told
@@ -36,19 +36,15 @@ fit c = ready (c .before .before .before .args .s) (search (needs, length-of-map
 abbrev rest : ℕ → List DefunctLock → List DefunctLock
 rest now t = removeAll (filter (lapsed now) t) t
 
--- src/acknowledge.rt:182:9
 broken-requires : tie.Need-broken-requires
 broken-requires c κs = search needs
 
--- src/acknowledge.rt:183:28
 enum-known-v : tie.Need-enum-known-v
 enum-known-v c = search needs
 
--- src/acknowledge.rt:184:9
 none-shed-requires : tie.Need-none-shed-requires
 none-shed-requires c κs = search needs
 
--- src/acknowledge.rt:184:9
 returns : tie.Need-returns
 unfolding expireDefunctOn
 returns c = c .none-shed .ensures ∙ on-broken _ _ _ _ _ (c .before .before .before .before .broken .ensures) (c .before .before .v .given .1)
@@ -56,45 +52,37 @@ returns c = c .none-shed .ensures ∙ on-broken _ _ _ _ _ (c .before .before .be
 enum-told : tie.Need-enum-told
 enum-told c = search needs
 
--- src/acknowledge.rt:187:9
 lapsed-ids-requires : tie.Need-lapsed-ids-requires
 lapsed-ids-requires c κs = fit (c .before) .tidy .defunct
 
--- src/acknowledge.rt:189:9
 none-shed-requires-2 : tie.Need-none-shed-requires-2
 none-shed-requires-2 c κs = search needs
 
--- src/acknowledge.rt:189:9
 returns-2 : tie.Need-returns-2
 returns-2 c = let b = c .before .before .before .before .before in c .none-shed2 .ensures ∙ laws.none-lapsed _ (tested b) _ _ (c .before .before .before .lapsed-ids .ensures) (c .before .if1 .taken)
 
--- src/acknowledge.rt:191:9
 widened-requires : tie.Need-widened-requires
 widened-requires c κs = fit (c .before .before .before .before) .tidy .defunct
 
--- src/acknowledge.rt:192:9
 without-lapsed-requires : tie.Need-without-lapsed-requires
 without-lapsed-requires c κs = let b = c .before .before .before .before .before in laws.ranked _ (fit b .tidy) _ (c .widened .ensures) (fit b .order)
 
--- src/acknowledge.rt:193:9
 with-entries-requires : tie.Need-with-entries-requires
 with-entries-requires c κs =
     let b = c .before .before .before .before .before .before in
     let a = b .before .before .before .args in
-    (fit b .tidy, laws.left-room _ (fit b .tidy) _ (c .before .widened .ensures) (rest (a .clock)) (λ l. removeAll-le (filter (lapsed (a .clock)) l) l) _ (c .without-lapsed .ensures))
+    (fit b .tidy, laws.left-room _ (fit b .tidy) _ (c .before .widened .ensures) (rest (a .now)) (λ l. removeAll-le (filter (lapsed (a .now)) l) l) _ (c .without-lapsed .ensures))
 
--- src/acknowledge.rt:194:5
 settle-shed-requires : tie.Need-settle-shed-requires
 settle-shed-requires c κs = search needs
 
--- src/acknowledge.rt:179:1
 returns-3 : tie.Need-returns-3
 returns-3 c =
     let b = c .before .before .before .before .before .before .before .before in
     let a = b .before .before .before .args in
     c .settle-shed .ensures
     ∙ laws.some-lapsed _ (tested b) _ _ (c .before .before .before .before .before .before .lapsed-ids .ensures) (c .before .before .before .before .if1 .left) _
-    (laws.left-entries _ (fit b .tidy) _ (c .before .before .before .widened .ensures) (rest (a .clock)) (λ l. removeAll-le (filter (lapsed (a .clock)) l) l) _ (c .before .before .without-lapsed .ensures)) _ (c .before .with-entries .ensures)
+    (laws.left-entries _ (fit b .tidy) _ (c .before .before .before .widened .ensures) (rest (a .now)) (λ l. removeAll-le (filter (lapsed (a .now)) l) l) _ (c .before .before .without-lapsed .ensures)) _ (c .before .with-entries .ensures)
 
 pub expire-defunct-spec : {M : Type 1} → statement M
 expire-defunct-spec =

@@ -5,7 +5,6 @@ use Rattle.operations.proofs.acknowledge.has_lapsed.Tie as tie
 use Rattle.operations.proofs.acknowledge.has_lapsed.Reads as reads
 use Rattle.operations.proofs.acknowledge.has_lapsed.Lts as lts
 
--- src/acknowledge.rt:104:1
 returns : tie.Need-returns
 unfolding lapsed
 returns c = search needs

@@ -12,7 +12,7 @@ use Rattle.ids.specs.Order.{noId}
 use Rattle.state.specs.declared.DefunctLock.{DefunctLock}
 use Rattle.operations.specs.declared.answers.DefunctExpiry.the-variants.{Done}
 use Rattle.operations.specs.Acknowledge.{lapsed, idsOfEntries}
-use Rattle.operations.specs.Place.{idsTold}
+use Rattle.operations.specs.Code.{idsTold}
 use Rattle.operations.proofs.acknowledge.lapsed_ids.Statement.{statement}
 use Rattle.operations.proofs.acknowledge.lapsed_ids.Tie as tie
 use Rattle.operations.proofs.acknowledge.lapsed_ids.Reads as reads
@@ -32,7 +32,7 @@ long : (c : tie.Start Inv-loop μ-loop) → length (c .args .t1) ≡ 128
 long c = search (needs, length-of-mapped)
 
 abbrev kept : (c : tie.At-loop Inv-loop μ-loop) → List LockId
-kept c = chosen (c .before .args .clock) (c .before .args .t1) (c .loop .i)
+kept c = chosen (c .before .args .now) (c .before .args .t1) (c .loop .i)
 
 inside : (c : tie.In-loop Inv-loop μ-loop) → c .before .loop .i < length (c .before .before .args .t1)
 inside c = omega (arith, long (c .before .before))
@@ -43,64 +43,51 @@ room c = omega arith
 told : (l out : List LockId) (w : ℕ) → Holds 128 noId l out w → record { answer = Done; gone = w; ids = out } ≡ idsTold l
 told l out w h = rw (h .0, h .1)
 
--- src/acknowledge.rt:119:5
 loop-holds : tie.Need-loop-holds Inv-loop μ-loop
 loop-holds c = (omega arith, omega arith, (refl, refl))
 
--- src/acknowledge.rt:120:17
 mul-d : tie.Need-mul-d Inv-loop μ-loop
 mul-d c = omega arith
 
--- src/acknowledge.rt:120:17
 array-copy-out-d : tie.Need-array-copy-out-d Inv-loop μ-loop
 array-copy-out-d c = omega arith
 
--- src/acknowledge.rt:121:9
 add-i : tie.Need-add-i Inv-loop μ-loop
 add-i c = omega arith
 
--- src/acknowledge.rt:122:12
 has-lapsed-requires : tie.Need-has-lapsed-requires Inv-loop μ-loop
 has-lapsed-requires c κs = tt
 
--- src/acknowledge.rt:124:13
 mul-ids : tie.Need-mul-ids Inv-loop μ-loop
 mul-ids c = omega arith
 
--- src/acknowledge.rt:124:13
 array-set-from-ids : tie.Need-array-set-from-ids Inv-loop μ-loop
 array-set-from-ids c = omega arith
 
--- src/acknowledge.rt:125:13
 add-w : tie.Need-add-w Inv-loop μ-loop
 add-w c = omega arith
 
--- src/acknowledge.rt:119:5
 loop-less : tie.Need-loop-less Inv-loop μ-loop
 loop-less c = omega arith
 
--- src/acknowledge.rt:119:5
 loop-again : tie.Need-loop-again Inv-loop μ-loop
 loop-again c =
     let b = c .before .before .before .before in
     (omega arith, omega arith, push 128 noId (kept (b .before)) _ _ _ _ (b .before .loop .inv .2) (room b) (sift-yes _ _ _ _ _ (inside b) (sym (c .before .before .has-lapsed .ensures) ∙ c .before .if1 .taken)))
 
--- src/acknowledge.rt:119:5
 loop-less-2 : tie.Need-loop-less-2 Inv-loop μ-loop
 loop-less-2 c = omega arith
 
--- src/acknowledge.rt:119:5
 loop-again-2 : tie.Need-loop-again-2 Inv-loop μ-loop
 loop-again-2 c =
     let b = c .before .before .before in
     (omega arith, omega arith, stay 128 noId (kept (b .before)) _ _ _ (b .before .loop .inv .2) (sift-no _ _ _ _ _ (inside b) (sym (c .before .has-lapsed .ensures) ∙ c .if1 .left)))
 
--- src/acknowledge.rt:111:1
 returns : tie.Need-returns Inv-loop μ-loop
 returns c =
     let b = c .before in
     let e : b .loop .i ≡ b .before .args .n = omega arith in
-    told (kept b) _ _ (b .loop .inv .2) ∙ ap (λ (i : ℕ). idsTold (chosen (b .before .args .clock) (b .before .args .t1) i)) e
+    told (kept b) _ _ (b .loop .inv .2) ∙ ap (λ (i : ℕ). idsTold (chosen (b .before .args .now) (b .before .args .t1) i)) e
 
 pub lapsed-ids-spec : {M : Type 1} → statement M
 lapsed-ids-spec =

@@ -7,27 +7,21 @@ use Rattle.operations.proofs.acknowledge.settle.Reads as reads
 use Rattle.operations.proofs.acknowledge.settle.Lts as lts
 use Rattle.rules.proofs.broken.Reads as broken-reads
 
--- src/acknowledge.rt:62:9
 returns : tie.Need-returns
 returns c = laws.told-last _ _ (eq-eqb _ _ (c .if1 .taken))
 
--- src/acknowledge.rt:67:9
 broken-requires : tie.Need-broken-requires
 broken-requires c κs = search needs
 
--- src/acknowledge.rt:70:19
 enum-told : tie.Need-enum-told
 enum-told c = search needs
 
--- src/acknowledge.rt:74:19
 enum-told-2 : tie.Need-enum-told-2
 enum-told-2 c = search needs
 
--- src/acknowledge.rt:58:1
 returns-2 : tie.Need-returns-2
 returns-2 c = laws.told-done _ _ (ne-eqb _ _ (c .before .before .before .if1 .left)) _ (c .before .before .broken .ensures) (c .enum-told .given .1)
 
--- src/acknowledge.rt:58:1
 returns-3 : tie.Need-returns-3
 returns-3 c = laws.told-broken _ _ (ne-eqb _ _ (c .before .before .before .if1 .left)) _ (c .before .before .broken .ensures) _ (c .enum-told2 .given .1)
 

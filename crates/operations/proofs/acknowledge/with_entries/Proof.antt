@@ -10,24 +10,20 @@ use Rattle.operations.proofs.acknowledge.with_entries.Statement.{statem
 use Rattle.operations.proofs.acknowledge.with_entries.Tie as tie
 use Rattle.operations.proofs.acknowledge.with_entries.Reads as reads
 use Rattle.operations.proofs.acknowledge.with_entries.Lts as lts
-use Rattle.operations.proofs.table.narrowed.Reads as narrowed-reads
+use Rattle.operations.proofs.defuncts.narrowed.Reads as narrowed-reads
 
-long : (c : tie.Start) → c .args .t .count ≤ length (c .args .t .entries)
-long c = let e : length (c .args .t .entries) ≡ 192 = search (needs, length-of-mapped) in omega (arith, c .pre .1)
+long : (c : tie.Start) → c .args .table .count ≤ length (c .args .table .entries)
+long c = let e : length (c .args .table .entries) ≡ 192 = search (needs, length-of-mapped) in omega (arith, c .pre .1)
 
--- src/acknowledge.rt:30:9
 narrowed-requires : tie.Need-narrowed-requires
 narrowed-requires c κs = search needs
 
--- src/acknowledge.rt:35:9
 returns : tie.Need-returns
 returns c = let o = c .before .before .before in laws.with-last _ (o .pre .0) _ (long o) _ (c .before .before .narrowed .ensures) (eq-eqb _ _ (c .if1 .taken))
 
--- src/acknowledge.rt:37:21
 add-next : tie.Need-add-next
 add-next c = search needs
 
--- src/acknowledge.rt:26:1
 returns-2 : tie.Need-returns-2
 returns-2 c = let o = c .before .before .before .before in laws.with-next _ (o .pre .0) _ (long o) _ (c .before .before .before .narrowed .ensures) (ne-eqb _ _ (c .before .if1 .left))
 

@@ -38,16 +38,13 @@ not-done (UnsoundState n) h = refl
 not-done NoRoom h = refl
 not-done BadList h = refl
 
--- src/answers.rt:139:31
 enum-told : tie.Need-enum-told
 enum-told c = search needs
 
--- src/answers.rt:136:1
 returns : tie.Need-returns
 unfolding isDone
 returns c = search needs
 
--- src/answers.rt:136:1
 returns-2 : tie.Need-returns-2
 returns-2 c = not-done (c .before .args .a) (c .match .keys2)
 

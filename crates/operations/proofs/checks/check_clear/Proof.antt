@@ -26,41 +26,32 @@ abbrev μ-loop : tie.MeasureT-loop
 long : (c : tie.Start Inv-loop μ-loop) → c .args .n ≤ length (c .args .t1)
 long c = let e : length (c .args .t1) ≡ 64 = search (needs, length-of-mapped) in omega arith
 
--- src/checks.rt:134:5
 loop-holds : tie.Need-loop-holds Inv-loop μ-loop
 loop-holds c = (omega arith, refl)
 
--- src/checks.rt:135:17
 mul-a : tie.Need-mul-a Inv-loop μ-loop
 mul-a c = omega arith
 
--- src/checks.rt:135:17
 array-copy-out-a : tie.Need-array-copy-out-a Inv-loop μ-loop
 array-copy-out-a c = omega arith
 
--- src/checks.rt:136:9
 add-i : tie.Need-add-i Inv-loop μ-loop
 add-i c = omega arith
 
--- src/checks.rt:137:12
 in-conflict-requires : tie.Need-in-conflict-requires Inv-loop μ-loop
 in-conflict-requires c κs = tt
 
--- src/checks.rt:139:13
 returns : tie.Need-returns Inv-loop μ-loop
-returns c = let o = c .before .before .before .before .before .before in clear-hit (take (o .args .n) (o .args .t1)) (o .args .x) _ (sym (c .before .before .before .before .before .loop .inv .1) ∙ find-yes _ _ _ _ _ (c .before .before .before .before .loop-test .taken) (long o) (sym (c .before .before .in-conflict .ensures) ∙ c .before .if1 .taken))
+returns c = let o = c .before .before .before .before .before .before in clear-hit (take (o .args .n) (o .args .t1)) (o .args .new) _ (sym (c .before .before .before .before .before .loop .inv .1) ∙ find-yes _ _ _ _ _ (c .before .before .before .before .loop-test .taken) (long o) (sym (c .before .before .in-conflict .ensures) ∙ c .before .if1 .taken))
 
--- src/checks.rt:134:5
 loop-less : tie.Need-loop-less Inv-loop μ-loop
 loop-less c = omega arith
 
--- src/checks.rt:134:5
 loop-again : tie.Need-loop-again Inv-loop μ-loop
 loop-again c = let o = c .before .before .before .before .before in (omega arith, sym (find-no _ _ _ _ _ (c .before .before .before .loop-test .taken) (long o) (sym (c .before .in-conflict .ensures) ∙ c .if1 .left)) ∙ c .before .before .before .before .loop .inv .1)
 
--- src/checks.rt:129:1
 returns-2 : tie.Need-returns-2 Inv-loop μ-loop
-returns-2 c = let o = c .before .before in clear-miss (take (o .args .n) (o .args .t1)) (o .args .x) (sym (c .before .loop .inv .1) ∙ find-end _ _ _ _ (c .before .loop .inv .0) (c .loop-test .left))
+returns-2 c = let o = c .before .before in clear-miss (take (o .args .n) (o .args .t1)) (o .args .new) (sym (c .before .loop .inv .1) ∙ find-end _ _ _ _ (c .before .loop .inv .0) (c .loop-test .left))
 
 pub check-clear-spec : {M : Type 1} → statement M
 check-clear-spec =

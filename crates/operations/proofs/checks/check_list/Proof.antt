@@ -6,15 +6,12 @@ use Rattle.operations.proofs.checks.check_list.Reads as reads
 use Rattle.operations.proofs.checks.check_list.Lts as lts
 use Rattle.ids.proofs.is_odd.Reads as is-odd-reads
 
--- src/checks.rt:29:8
 is-odd-requires : tie.Need-is-odd-requires
 is-odd-requires c κs = search needs
 
--- src/checks.rt:30:9
 returns : tie.Need-returns
 returns c = list-odd (c .before .before .before .args .list .now) _ (c .before .is-odd .ensures) (c .if1 .taken)
 
--- src/checks.rt:26:1
 returns-2 : tie.Need-returns-2
 returns-2 c = list-even (c .before .before .before .args .list .now) _ (c .before .is-odd .ensures) (c .if1 .left)
 

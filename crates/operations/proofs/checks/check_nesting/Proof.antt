@@ -27,49 +27,38 @@ abbrev μ-loop : tie.MeasureT-loop
 long : (c : tie.Start Inv-loop μ-loop) → c .args .n ≤ length (c .args .t1)
 long c = let e : length (c .args .t1) ≡ 64 = search (needs, length-of-mapped) in omega arith
 
--- src/checks.rt:104:9
 returns : tie.Need-returns Inv-loop μ-loop
-returns c = let o = c .before .before in nesting-none (take (o .args .n) (o .args .t1)) (o .args .x) (c .if1 .taken)
+returns c = let o = c .before .before in nesting-none (take (o .args .n) (o .args .t1)) (o .args .new) (c .if1 .taken)
 
--- src/checks.rt:108:5
 loop-holds : tie.Need-loop-holds Inv-loop μ-loop
 loop-holds c = (omega arith, refl)
 
--- src/checks.rt:109:17
 mul-p : tie.Need-mul-p Inv-loop μ-loop
 mul-p c = omega arith
 
--- src/checks.rt:109:17
 array-copy-out-p : tie.Need-array-copy-out-p Inv-loop μ-loop
 array-copy-out-p c = omega arith
 
--- src/checks.rt:110:9
 add-i : tie.Need-add-i Inv-loop μ-loop
 add-i c = omega arith
 
--- src/checks.rt:111:12
 has-id-requires : tie.Need-has-id-requires Inv-loop μ-loop
 has-id-requires c κs = tt
 
--- src/checks.rt:112:13
 check-parent-requires : tie.Need-check-parent-requires Inv-loop μ-loop
 check-parent-requires c κs = tt
 
--- src/checks.rt:112:13
 returns-2 : tie.Need-returns-2 Inv-loop μ-loop
-returns-2 c = let o = c .before .before .before .before .before .before .before .before .before in nesting-hit (take (o .args .n) (o .args .t1)) (o .args .x) (c .before .before .before .before .before .before .before .if1 .left) _ _ (sym (c .before .before .before .before .before .loop .inv .1) ∙ find-yes _ _ _ _ _ (c .before .before .before .before .loop-test .taken) (long o) (sym (c .before .before .has-id .ensures) ∙ c .before .if2 .taken)) (c .check-parent .ensures)
+returns-2 c = let o = c .before .before .before .before .before .before .before .before .before in nesting-hit (take (o .args .n) (o .args .t1)) (o .args .new) (c .before .before .before .before .before .before .before .if1 .left) _ _ (sym (c .before .before .before .before .before .loop .inv .1) ∙ find-yes _ _ _ _ _ (c .before .before .before .before .loop-test .taken) (long o) (sym (c .before .before .has-id .ensures) ∙ c .before .if2 .taken)) (c .check-parent .ensures)
 
--- src/checks.rt:108:5
 loop-less : tie.Need-loop-less Inv-loop μ-loop
 loop-less c = omega arith
 
--- src/checks.rt:108:5
 loop-again : tie.Need-loop-again Inv-loop μ-loop
 loop-again c = let o = c .before .before .before .before .before .before .before .before in (omega arith, sym (find-no _ _ _ _ _ (c .before .before .before .loop-test .taken) (long o) (sym (c .before .has-id .ensures) ∙ c .if2 .left)) ∙ c .before .before .before .before .loop .inv .1)
 
--- src/checks.rt:99:1
 returns-3 : tie.Need-returns-3 Inv-loop μ-loop
-returns-3 c = let o = c .before .before .before .before .before in nesting-miss (take (o .args .n) (o .args .t1)) (o .args .x) (c .before .before .before .if1 .left) (sym (c .before .loop .inv .1) ∙ find-end _ _ _ _ (c .before .loop .inv .0) (c .loop-test .left))
+returns-3 c = let o = c .before .before .before .before .before in nesting-miss (take (o .args .n) (o .args .t1)) (o .args .new) (c .before .before .before .if1 .left) (sym (c .before .loop .inv .1) ∙ find-end _ _ _ _ (c .before .loop .inv .0) (c .loop-test .left))
 
 pub check-nesting-spec : {M : Type 1} → statement M
 check-nesting-spec =

@@ -4,11 +4,9 @@ use Rattle.operations.proofs.checks.check_revision.Tie as tie
 use Rattle.operations.proofs.checks.check_revision.Reads as reads
 use Rattle.operations.proofs.checks.check_revision.Lts as lts
 
--- src/checks.rt:186:9
 returns : tie.Need-returns
 returns c = revision-yes _ (c .if1 .taken)
 
--- src/checks.rt:182:1
 returns-2 : tie.Need-returns-2
 returns-2 c = revision-no _ (c .if1 .left)
 

@@ -26,41 +26,32 @@ abbrev μ-loop : tie.MeasureT-loop
 long : (c : tie.Start Inv-loop μ-loop) → c .args .n ≤ length (c .args .t1)
 long c = let e : length (c .args .t1) ≡ 64 = search (needs, length-of-mapped) in omega arith
 
--- src/checks.rt:69:5
 loop-holds : tie.Need-loop-holds Inv-loop μ-loop
 loop-holds c = (omega arith, refl)
 
--- src/checks.rt:70:17
 mul-a : tie.Need-mul-a Inv-loop μ-loop
 mul-a c = omega arith
 
--- src/checks.rt:70:17
 array-copy-out-a : tie.Need-array-copy-out-a Inv-loop μ-loop
 array-copy-out-a c = omega arith
 
--- src/checks.rt:71:9
 add-i : tie.Need-add-i Inv-loop μ-loop
 add-i c = omega arith
 
--- src/checks.rt:72:12
 on-scope-requires : tie.Need-on-scope-requires Inv-loop μ-loop
 on-scope-requires c κs = tt
 
--- src/checks.rt:73:13
 returns : tie.Need-returns Inv-loop μ-loop
-returns c = let o = c .before .before .before .before .before .before in scope-yes (take (o .args .n) (o .args .t1)) (o .args .x) true (sym (any-yes _ _ _ _ _ (c .before .before .before .loop-test .taken) (long o) (sym (c .before .on-scope .ensures) ∙ c .if1 .taken)) ∙ c .before .before .before .before .loop .inv .1) refl
+returns c = let o = c .before .before .before .before .before .before in scope-yes (take (o .args .n) (o .args .t1)) (o .args .new) true (sym (any-yes _ _ _ _ _ (c .before .before .before .loop-test .taken) (long o) (sym (c .before .on-scope .ensures) ∙ c .if1 .taken)) ∙ c .before .before .before .before .loop .inv .1) refl
 
--- src/checks.rt:69:5
 loop-less : tie.Need-loop-less Inv-loop μ-loop
 loop-less c = omega arith
 
--- src/checks.rt:69:5
 loop-again : tie.Need-loop-again Inv-loop μ-loop
 loop-again c = let o = c .before .before .before .before .before .before in (omega arith, sym (any-no _ _ _ _ _ (c .before .before .before .loop-test .taken) (long o) (sym (c .before .on-scope .ensures) ∙ c .if1 .left)) ∙ c .before .before .before .before .loop .inv .1)
 
--- src/checks.rt:62:1
 returns-2 : tie.Need-returns-2 Inv-loop μ-loop
-returns-2 c = let o = c .before .before .before in scope-no (take (o .args .n) (o .args .t1)) (o .args .x) false (sym (any-end _ _ _ _ (c .before .loop .inv .0) (c .loop-test .left)) ∙ c .before .loop .inv .1) refl
+returns-2 c = let o = c .before .before .before in scope-no (take (o .args .n) (o .args .t1)) (o .args .new) false (sym (any-end _ _ _ _ (c .before .loop .inv .0) (c .loop-test .left)) ∙ c .before .loop .inv .1) refl
 
 pub check-scope-spec : {M : Type 1} → statement M
 check-scope-spec =

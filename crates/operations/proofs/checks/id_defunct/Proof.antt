@@ -22,42 +22,33 @@ Inv-loop m id t i₀ i = (i ≤ m) × (any (hasIdD id) (slice i m t) ≡ any (ha
 abbrev μ-loop : tie.MeasureT-loop
 μ-loop m id t i₀ i = m - i
 
-long : (c : tie.Start Inv-loop μ-loop) → c .args .m ≤ length (c .args .t1)
+long : (c : tie.Start Inv-loop μ-loop) → c .args .n ≤ length (c .args .t1)
 long c = let e : length (c .args .t1) ≡ 128 = search (needs, length-of-mapped) in omega arith
 
--- src/checks.rt:31:5
 loop-holds : tie.Need-loop-holds Inv-loop μ-loop
 loop-holds c = (omega arith, refl)
 
--- src/checks.rt:32:17
 mul-d : tie.Need-mul-d Inv-loop μ-loop
 mul-d c = omega arith
 
--- src/checks.rt:32:17
 array-copy-out-d : tie.Need-array-copy-out-d Inv-loop μ-loop
 array-copy-out-d c = omega arith
 
--- src/checks.rt:33:9
 add-i : tie.Need-add-i Inv-loop μ-loop
 add-i c = omega arith
 
--- src/checks.rt:34:12
 has-id-defunct-requires : tie.Need-has-id-defunct-requires Inv-loop μ-loop
 has-id-defunct-requires c κs = tt
 
--- src/checks.rt:35:13
 returns : tie.Need-returns Inv-loop μ-loop
 returns c = let b = c .before .before .before in sym (any-yes _ _ _ _ _ (b .loop-test .taken) (long (b .before .before)) (sym (c .before .has-id-defunct .ensures) ∙ c .if1 .taken)) ∙ b .before .loop .inv .1
 
--- src/checks.rt:31:5
 loop-less : tie.Need-loop-less Inv-loop μ-loop
 loop-less c = omega arith
 
--- src/checks.rt:31:5
 loop-again : tie.Need-loop-again Inv-loop μ-loop
 loop-again c = let b = c .before .before .before in (omega arith, sym (any-no _ _ _ _ _ (b .loop-test .taken) (long (b .before .before)) (sym (c .before .has-id-defunct .ensures) ∙ c .if1 .left)) ∙ b .before .loop .inv .1)
 
--- src/checks.rt:26:1
 returns-2 : tie.Need-returns-2 Inv-loop μ-loop
 returns-2 c = sym (any-end _ _ _ _ (c .before .loop .inv .0) (c .loop-test .left)) ∙ c .before .loop .inv .1
 

@@ -7,19 +7,16 @@ use Rattle.operations.proofs.checks.in_conflict.Lts as lts
 use Rattle.coverage.proofs.LockCoverage.overlaps.Reads as overlaps-reads
 use Rattle.state.proofs.is_vehicle.Reads as is-vehicle-reads
 
--- src/checks.rt:136:5
 overlaps-requires : tie.Need-overlaps-requires
 overlaps-requires c κs = search needs
 
--- src/checks.rt:136:87
 is-vehicle-requires : tie.Need-is-vehicle-requires
 is-vehicle-requires c κs = search needs
 
--- src/checks.rt:131:1
 returns : tie.Need-returns
 returns c =
     let o = c .before .before .before .before .before in
-    conflicts-is (o .args .x) (o .args .a) _ _ (c .before .before .before .overlaps .ensures) (c .is-vehicle .ensures)
+    conflicts-is (o .args .new) (o .args .a) _ _ (c .before .before .before .overlaps .ensures) (c .is-vehicle .ensures)
 
 pub in-conflict-spec : {M : Type 1} → statement M
 in-conflict-spec = tie.close (tie.spec overlaps-requires is-vehicle-requires returns)

@@ -4,43 +4,33 @@ use Rattle.operations.proofs.delete.as_expiration.Tie as tie
 use Rattle.operations.proofs.delete.as_expiration.Reads as reads
 use Rattle.operations.proofs.delete.as_expiration.Lts as lts
 
--- src/delete.rt:100:27
 enum-told : tie.Need-enum-told
 enum-told c = search needs
 
--- src/delete.rt:101:44
 enum-told-2 : tie.Need-enum-told-2
 enum-told-2 c = search needs
 
--- src/delete.rt:102:39
 enum-told-3 : tie.Need-enum-told-3
 enum-told-3 c = search needs
 
--- src/delete.rt:103:32
 enum-told-4 : tie.Need-enum-told-4
 enum-told-4 c = search needs
 
--- src/delete.rt:104:32
 enum-known-a : tie.Need-enum-known-a
 enum-known-a c = search needs
 
--- src/delete.rt:96:1
 returns : tie.Need-returns
 returns c = search needs
 
--- src/delete.rt:96:1
 returns-2 : tie.Need-returns-2
 returns-2 c = search needs
 
--- src/delete.rt:96:1
 returns-3 : tie.Need-returns-3
 returns-3 c = search needs
 
--- src/delete.rt:96:1
 returns-4 : tie.Need-returns-4
 returns-4 c = search needs
 
--- src/delete.rt:96:1
 returns-5 : tie.Need-returns-5
 returns-5 c = rw (c .before .a .given .1)
 

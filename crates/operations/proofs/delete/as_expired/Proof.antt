@@ -5,11 +5,9 @@ use Rattle.operations.proofs.delete.as_expired.Reads as reads
 use Rattle.operations.proofs.delete.as_expired.Lts as lts
 use Rattle.operations.proofs.delete.as_expiration.Reads as as-expiration-reads
 
--- src/delete.rt:114:9
 as-expiration-requires : tie.Need-as-expiration-requires
 as-expiration-requires c κs = search needs
 
--- src/delete.rt:109:1
 returns : tie.Need-returns
 returns c = rw (c .before .before .as-expiration .ensures)
 

@@ -11,8 +11,7 @@ use Rattle.lookups.proofs.Verdicts.{on-broken}
 use Rattle.operations.proofs.Finding.{found-none, found-lock}
 use Rattle.operations.proofs.Deleting as laws
 use borrow.Author.Tests.{lt-ltb, le-ltb}
-use Rattle.operations.specs.Delete.{beginExpirationOn}
-use Rattle.operations.specs.Place.{asExpired}
+use Rattle.operations.specs.Delete.{beginExpirationOn, asExpired}
 use borrow.Author.Needs.{needs}
 use Rattle.operations.proofs.delete.begin_expiration.Statement.{statement}
 use Rattle.operations.proofs.delete.begin_expiration.Tie as tie
@@ -34,19 +33,15 @@ tidy c = tidy-of-sound (c .before .before .before .args .t1) (search (needs, len
 index : (c : tie.Else1) → c .before .place-of .result < 64
 index c = omega (arith, tidy (c .before .before) .active)
 
--- src/delete.rt:125:9
 broken-requires : tie.Need-broken-requires
 broken-requires c κs = search needs
 
--- src/delete.rt:126:28
 enum-known-v : tie.Need-enum-known-v
 enum-known-v c = search needs
 
--- src/delete.rt:127:9
 stays-requires : tie.Need-stays-requires
 stays-requires c κs = search needs
 
--- src/delete.rt:127:9
 returns : tie.Need-returns
 unfolding beginExpirationOn
 returns c = c .stays .ensures ∙ on-broken _ _ _ _ _ (c .before .before .before .before .broken .ensures) (c .before .before .v .given .1)
@@ -54,53 +49,44 @@ returns c = c .stays .ensures ∙ on-broken _ _ _ _ _ (c .before .before .before
 enum-told : tie.Need-enum-told
 enum-told c = search needs
 
--- src/delete.rt:129:9
 place-of-requires : tie.Need-place-of-requires
 place-of-requires c κs = tidy c .active
 
--- src/delete.rt:131:9
 stays-requires-2 : tie.Need-stays-requires-2
 stays-requires-2 c κs = search needs
 
--- src/delete.rt:131:9
 returns-2 : tie.Need-returns-2
 returns-2 c =
     let b = c .before .before .before in
-    c .stays2 .ensures ∙ laws.stale _ _ ∙ laws.expiration-of _ _ (tested b) _ _ (found-none _ (tidy b) _ _ (c .before .before .place-of .ensures) (c .before .if1 .taken))
+    c .stays2 .ensures ∙ laws.stale _ _ _ ∙ laws.expiration-of _ _ (tested b) _ _ (found-none _ (tidy b) _ _ (c .before .before .place-of .ensures) (c .before .if1 .taken))
 
--- src/delete.rt:133:13
 mul-r : tie.Need-mul-r
 mul-r c = omega (arith, index c)
 
--- src/delete.rt:133:13
 element-copy-out-r : tie.Need-element-copy-out-r
 element-copy-out-r c = index c
 
--- src/delete.rt:135:9
 stays-requires-3 : tie.Need-stays-requires-3
 stays-requires-3 c κs = search needs
 
--- src/delete.rt:135:9
 returns-3 : tie.Need-returns-3
 unfolding blankActive
 returns-3 c =
     let b = c .before .before .before .before .before .before in
-    c .stays3 .ensures ∙ laws.not-due _ _ _ (lt-ltb _ _ (c .before .if2 .taken)) ∙ laws.expiration-of _ _ (tested b) _ _ (found-lock _ (tidy b) _ _ (c .before .before .before .before .before .place-of .ensures) (c .before .before .before .before .if1 .left))
+    c .stays3 .ensures ∙ laws.not-due _ _ _ _ (lt-ltb _ _ (c .before .if2 .taken)) ∙ laws.expiration-of _ _ (tested b) _ _ (found-lock _ (tidy b) _ _ (c .before .before .before .before .before .place-of .ensures) (c .before .before .before .before .if1 .left))
 
--- src/delete.rt:137:9
 remove-requires : tie.Need-remove-requires
 remove-requires c κs = tidy (c .before .before .before .before .before)
 
--- src/delete.rt:138:5
 as-expired-requires : tie.Need-as-expired-requires
 as-expired-requires c κs = search needs
 
--- src/delete.rt:122:1
 returns-4 : tie.Need-returns-4
 unfolding blankActive
 returns-4 c =
     let b = c .before .before .before .before .before .before .before in
-    c .as-expired .ensures ∙ ap asExpired (c .before .remove .ensures) ∙ laws.due _ _ _ _ (le-ltb _ _ (c .before .before .if2 .left)) ∙ laws.expiration-of _ _ (tested b) _ _ (found-lock _ (tidy b) _ _ (c .before .before .before .before .before .before .place-of .ensures) (c .before .before .before .before .before .if1 .left))
+    let f = found-lock _ (tidy b) _ _ (c .before .before .before .before .before .before .place-of .ensures) (c .before .before .before .before .before .if1 .left) in
+    c .as-expired .ensures ∙ ap asExpired (c .before .remove .ensures) ∙ laws.due _ _ _ _ (tested b) f (le-ltb _ _ (c .before .before .if2 .left)) ∙ laws.expiration-of _ _ (tested b) _ _ f
 
 pub begin-expiration-spec : {M : Type 1} → statement M
 begin-expiration-spec =

@@ -31,19 +31,15 @@ tidy c = tidy-of-sound (c .before .before .before .args .t1) (search (needs, len
 index : (c : tie.Else1) → c .before .place-of .result < 64
 index c = omega (arith, tidy (c .before .before) .active)
 
--- src/delete.rt:70:9
 broken-requires : tie.Need-broken-requires
 broken-requires c κs = search needs
 
--- src/delete.rt:71:28
 enum-known-v : tie.Need-enum-known-v
 enum-known-v c = search needs
 
--- src/delete.rt:72:9
 kept-requires : tie.Need-kept-requires
 kept-requires c κs = search needs
 
--- src/delete.rt:72:9
 returns : tie.Need-returns
 unfolding deleteOn
 returns c = c .kept .ensures ∙ on-broken _ _ _ _ _ (c .before .before .before .before .broken .ensures) (c .before .before .v .given .1)
@@ -51,33 +47,26 @@ returns c = c .kept .ensures ∙ on-broken _ _ _ _ _ (c .before .before .before 
 enum-told : tie.Need-enum-told
 enum-told c = search needs
 
--- src/delete.rt:74:9
 place-of-requires : tie.Need-place-of-requires
 place-of-requires c κs = tidy c .active
 
--- src/delete.rt:76:9
 kept-requires-2 : tie.Need-kept-requires-2
 kept-requires-2 c κs = search needs
 
--- src/delete.rt:76:9
 returns-2 : tie.Need-returns-2
 returns-2 c =
     let b = c .before .before .before in
     c .kept2 .ensures ∙ laws.not-there _ _ ∙ laws.deletion-of _ _ (tested b) _ (found-none _ (tidy b) _ _ (c .before .before .place-of .ensures) (c .before .if1 .taken))
 
--- src/delete.rt:78:13
 mul-r : tie.Need-mul-r
 mul-r c = omega (arith, index c)
 
--- src/delete.rt:78:13
 element-copy-out-r : tie.Need-element-copy-out-r
 element-copy-out-r c = index c
 
--- src/delete.rt:79:5
 remove-requires : tie.Need-remove-requires
 remove-requires c κs = tidy (c .before .before .before)
 
--- src/delete.rt:67:1
 returns-3 : tie.Need-returns-3
 unfolding blankActive
 returns-3 c =

@@ -11,35 +11,27 @@ use Rattle.operations.proofs.delete.kept.Reads as kept-reads
 use Rattle.operations.proofs.trees.tree_out.Reads as tree-out-reads
 use Rattle.rules.proofs.broken.Reads as broken-reads
 
--- src/delete.rt:42:9
 kept-requires : tie.Need-kept-requires
 kept-requires c κs = search needs
 
--- src/delete.rt:42:9
 returns : tie.Need-returns
 returns c = c .kept .ensures ∙ laws.at-end _ (c .before .before .before .pre) _ _ (eq-eqb _ _ (c .before .if1 .taken))
 
--- src/delete.rt:45:9
 tree-out-requires : tie.Need-tree-out-requires
 tree-out-requires c κs = active-placed _ (c .before .before .before .pre)
 
--- src/delete.rt:48:21
 add-next : tie.Need-add-next
 add-next c = search needs
 
--- src/delete.rt:51:9
 broken-requires : tie.Need-broken-requires
 broken-requires c κs = search needs
 
--- src/delete.rt:53:21
 enum-told : tie.Need-enum-told
 enum-told c = search needs
 
--- src/delete.rt:53:9
 kept-requires-2 : tie.Need-kept-requires-2
 kept-requires-2 c κs = search needs
 
--- src/delete.rt:53:9
 returns-2 : tie.Need-returns-2
 returns-2 c =
     let b = c .before .before .before .before .before .before .before .before in
@@ -48,7 +40,6 @@ returns-2 c =
 enum-told-2 : tie.Need-enum-told-2
 enum-told-2 c = search needs
 
--- src/delete.rt:37:1
 returns-3 : tie.Need-returns-3
 returns-3 c =
     let b = c .before .before .before .before .before .before .before .before in

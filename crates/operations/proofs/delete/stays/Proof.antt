@@ -6,11 +6,9 @@ use Rattle.operations.proofs.delete.stays.Reads as reads
 use Rattle.operations.proofs.delete.stays.Lts as lts
 use Rattle.state.proofs.blank_active.Reads as blank-active-reads
 
--- src/delete.rt:85:9
 blank-active-requires : tie.Need-blank-active-requires
 blank-active-requires c κs = search needs
 
--- src/delete.rt:82:1
 returns : tie.Need-returns
 unfolding blankActive
 returns c = rw (c .blank-active .ensures)

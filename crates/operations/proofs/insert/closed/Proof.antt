@@ -6,23 +6,18 @@ use Rattle.operations.proofs.insert.closed.Reads as reads
 use Rattle.operations.proofs.insert.closed.Lts as lts
 use Rattle.rules.proofs.broken.Reads as broken-reads
 
--- src/insert.rt:129:9
 broken-requires : tie.Need-broken-requires
 broken-requires c κs = search needs
 
--- src/insert.rt:132:19
 enum-told : tie.Need-enum-told
 enum-told c = search needs
 
--- src/insert.rt:136:19
 enum-told-2 : tie.Need-enum-told-2
 enum-told-2 c = search needs
 
--- src/insert.rt:126:1
 returns : tie.Need-returns
 returns c = let o = c .before .before .before in closed-yes (o .args .s) (o .args .next) _ (c .before .before .broken .ensures) (c .enum-told .given .1)
 
--- src/insert.rt:126:1
 returns-2 : tie.Need-returns-2
 returns-2 c = let o = c .before .before .before in closed-no (o .args .s) (o .args .next) _ (c .before .before .broken .ensures) _ (c .enum-told2 .given .1)
 

@@ -8,54 +8,43 @@ use Rattle.operations.proofs.insert.inserted.Tie as tie
 use Rattle.operations.proofs.insert.inserted.Reads as reads
 use Rattle.operations.proofs.insert.inserted.Lts as lts
 use Rattle.operations.proofs.insert.put_in.Reads as put-in-reads
-use Rattle.operations.proofs.table.any_superseded.Reads as any-superseded-reads
-use Rattle.operations.proofs.table.narrowed.Reads as narrowed-reads
-use Rattle.operations.proofs.table.superseding.Reads as superseding-reads
-use Rattle.operations.proofs.table.widened.Reads as widened-reads
+use Rattle.operations.proofs.defuncts.any_superseded.Reads as any-superseded-reads
+use Rattle.operations.proofs.defuncts.narrowed.Reads as narrowed-reads
+use Rattle.operations.proofs.defuncts.superseding.Reads as superseding-reads
+use Rattle.operations.proofs.defuncts.widened.Reads as widened-reads
 
--- src/insert.rt:103:9
 put-in-requires : tie.Need-put-in-requires
 put-in-requires c κs = let o = c .before .before in (active-placed (o .args .s) (o .pre .0 .tidy), o .pre .1)
 
--- src/insert.rt:104:9
 any-superseded-requires : tie.Need-any-superseded-requires
 any-superseded-requires c κs = search needs
 
--- src/insert.rt:106:23
 add-t11 : tie.Need-add-t11
 add-t11 c = omega (arith, c .before .before .before .before .before .before .pre)
 
--- src/insert.rt:108:22
 add-t12 : tie.Need-add-t12
 add-t12 c = omega (arith, c .before .before .before .before .before .before .before .pre)
 
--- src/insert.rt:105:9
 returns : tie.Need-returns
-returns c = let o = c .before .before .before .before .before .before .before in change-none (o .args .s) (o .pre .0) (o .args .x) _ (c .before .before .before .before .put-in .ensures) (sym (c .before .before .before .any-superseded .ensures) ∙ not-true _ (c .before .before .if1 .taken))
+returns c = let o = c .before .before .before .before .before .before .before in change-none (o .args .s) (o .pre .0) (o .args .new) _ (c .before .before .before .before .put-in .ensures) (sym (c .before .before .before .any-superseded .ensures) ∙ not-true _ (c .before .before .if1 .taken))
 
--- src/insert.rt:113:9
 widened-requires : tie.Need-widened-requires
 widened-requires c κs = search needs
 
--- src/insert.rt:114:9
 superseding-requires : tie.Need-superseding-requires
-superseding-requires c κs = let o = c .before .before .before .before .before .before in wide-ranked (o .args .s) (o .pre .0) (o .args .x) _ (c .before .before .before .put-in .ensures) _ (c .widened .ensures)
+superseding-requires c κs = let o = c .before .before .before .before .before .before in wide-ranked (o .args .s) (o .pre .0) (o .args .new) _ (c .before .before .before .put-in .ensures) _ (c .widened .ensures)
 
--- src/insert.rt:115:9
 narrowed-requires : tie.Need-narrowed-requires
-narrowed-requires c κs = let o = c .before .before .before .before .before .before .before in table-room (o .args .s) (o .pre .0) (o .args .x) _ (c .before .before .before .before .put-in .ensures) _ (c .before .widened .ensures) _ (c .superseding .ensures)
+narrowed-requires c κs = let o = c .before .before .before .before .before .before .before in table-room (o .args .s) (o .pre .0) (o .args .new) _ (c .before .before .before .before .put-in .ensures) _ (c .before .widened .ensures) _ (c .superseding .ensures)
 
--- src/insert.rt:117:19
 add-t13 : tie.Need-add-t13
 add-t13 c = omega (arith, c .before .before .before .before .before .before .before .before .before .pre)
 
--- src/insert.rt:119:18
 add-t14 : tie.Need-add-t14
 add-t14 c = omega (arith, c .before .before .before .before .before .before .before .before .before .before .pre)
 
--- src/insert.rt:97:1
 returns-2 : tie.Need-returns-2
-returns-2 c = let o = c .before .before .before .before .before .before .before .before .before .before in change-some (o .args .s) (o .pre .0) (o .args .x) _ (c .before .before .before .before .before .before .before .put-in .ensures) _ (c .before .before .before .before .widened .ensures) _ (c .before .before .before .superseding .ensures) _ (c .before .before .narrowed .ensures)
+returns-2 c = let o = c .before .before .before .before .before .before .before .before .before .before in change-some (o .args .s) (o .pre .0) (o .args .new) _ (c .before .before .before .before .before .before .before .put-in .ensures) _ (c .before .before .before .before .widened .ensures) _ (c .before .before .before .superseding .ensures) _ (c .before .before .narrowed .ensures)
 
 pub inserted-spec : {M : Type 1} → statement M
 inserted-spec =

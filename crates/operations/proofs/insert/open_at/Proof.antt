@@ -23,39 +23,30 @@ abbrev μ-loop : tie.MeasureT-loop
 long : (c : tie.Start Inv-loop μ-loop) → c .args .n < length (c .args .t1)
 long c = let e : length (c .args .t1) ≡ 64 = search (needs, length-of-mapped) in omega arith
 
--- src/insert.rt:47:5
 loop-holds : tie.Need-loop-holds Inv-loop μ-loop
 loop-holds c = (omega arith, omega arith, up-start (c .args .t1) (c .args .n))
 
--- src/insert.rt:48:19
 sub-y : tie.Need-sub-y Inv-loop μ-loop
 sub-y c = omega arith
 
--- src/insert.rt:48:17
 mul-y : tie.Need-mul-y Inv-loop μ-loop
 mul-y c = omega arith
 
--- src/insert.rt:48:17
 array-copy-out-y : tie.Need-array-copy-out-y Inv-loop μ-loop
 array-copy-out-y c = omega arith
 
--- src/insert.rt:49:9
 mul-l : tie.Need-mul-l Inv-loop μ-loop
 mul-l c = omega arith
 
--- src/insert.rt:49:9
 array-set-from-l : tie.Need-array-set-from-l Inv-loop μ-loop
 array-set-from-l c = omega arith
 
--- src/insert.rt:50:9
 sub-j : tie.Need-sub-j Inv-loop μ-loop
 sub-j c = omega arith
 
--- src/insert.rt:47:5
 loop-less : tie.Need-loop-less Inv-loop μ-loop
 loop-less c = omega arith
 
--- src/insert.rt:47:5
 loop-again : tie.Need-loop-again Inv-loop μ-loop
 unfolding blankActive
 loop-again c =
@@ -64,15 +55,12 @@ loop-again c =
     let o = b .before in
     (omega arith, omega arith, rw (b .loop .inv .2) (up-step (o .args .t1) (j - 1) j (o .args .n) blankActive (omega arith) (omega arith) (long o)))
 
--- src/insert.rt:52:5
 mul-l-2 : tie.Need-mul-l-2 Inv-loop μ-loop
 mul-l-2 c = omega arith
 
--- src/insert.rt:52:5
 array-set-from-l-2 : tie.Need-array-set-from-l-2 Inv-loop μ-loop
 array-set-from-l-2 c = omega arith
 
--- src/insert.rt:42:1
 returns : tie.Need-returns Inv-loop μ-loop
 returns c =
     let b = c .before in

@@ -27,42 +27,33 @@ abbrev μ-loop : tie.MeasureT-loop
 long : (c : tie.Start Inv-loop μ-loop) → c .args .n ≤ length (c .args .t1)
 long c = let e : length (c .args .t1) ≡ 64 = search (needs, length-of-mapped) in omega arith
 
--- src/insert.rt:32:5
 loop-holds : tie.Need-loop-holds Inv-loop μ-loop
 unfolding placeOf
 loop-holds c = (omega arith, refl)
 
--- src/insert.rt:33:17
 mul-a : tie.Need-mul-a Inv-loop μ-loop
 mul-a c = omega arith
 
--- src/insert.rt:33:17
 array-copy-out-a : tie.Need-array-copy-out-a Inv-loop μ-loop
 array-copy-out-a c = omega arith
 
--- src/insert.rt:34:12
 less-requires : tie.Need-less-requires Inv-loop μ-loop
 less-requires c κs = tt
 
--- src/insert.rt:35:13
 returns : tie.Need-returns Inv-loop μ-loop
 unfolding beforeId
 returns c = let b = c .before .before .before in sym (pass-stop akey _ _ _ _ _ (b .loop-test .taken) (long (b .before .before)) (sym (c .before .less .ensures) ∙ c .if1 .taken)) ∙ b .before .loop .inv .1
 
--- src/insert.rt:37:9
 add-i : tie.Need-add-i Inv-loop μ-loop
 add-i c = omega arith
 
--- src/insert.rt:32:5
 loop-less : tie.Need-loop-less Inv-loop μ-loop
 loop-less c = omega arith
 
--- src/insert.rt:32:5
 loop-again : tie.Need-loop-again Inv-loop μ-loop
 unfolding beforeId
 loop-again c = let b = c .before .before .before in (omega arith, sym (pass-next akey _ _ _ _ _ (b .loop-test .taken) (long (b .before .before)) (sym (c .before .less .ensures) ∙ c .if1 .left)) ∙ b .before .loop .inv .1)
 
--- src/insert.rt:27:1
 returns-2 : tie.Need-returns-2 Inv-loop μ-loop
 returns-2 c = sym (pass-end akey _ _ _ _ (c .before .loop .inv .0) (c .loop-test .left)) ∙ c .before .loop .inv .1
 

@@ -7,17 +7,14 @@ use Rattle.operations.proofs.insert.put_in.Lts as lts
 use Rattle.operations.proofs.insert.open_at.Reads as open-at-reads
 use Rattle.operations.proofs.insert.place_of.Reads as place-of-reads
 
--- src/insert.rt:60:9
 place-of-requires : tie.Need-place-of-requires
 place-of-requires c κs = search needs
 
--- src/insert.rt:61:5
 open-at-requires : tie.Need-open-at-requires
-open-at-requires c κs = let o = c .before in (active-place (o .args .l) (o .args .n) (o .pre .0) (o .args .x) _ (c .place-of .ensures), o .pre .1)
+open-at-requires c κs = let o = c .before in (active-place (o .args .locks) (o .args .n) (o .pre .0) (o .args .new) _ (c .place-of .ensures), o .pre .1)
 
--- src/insert.rt:56:1
 returns : tie.Need-returns
-returns c = let o = c .before .before in active-put (o .args .l) (o .args .n) (o .pre .0) (o .args .x) _ (c .before .place-of .ensures) (o .pre .1) _ (c .open-at .ensures)
+returns c = let o = c .before .before in active-put (o .args .locks) (o .args .n) (o .pre .0) (o .args .new) _ (c .before .place-of .ensures) (o .pre .1) _ (c .open-at .ensures)
 
 pub put-in-spec : {M : Type 1} → statement M
 put-in-spec = tie.close (tie.spec place-of-requires open-at-requires returns)

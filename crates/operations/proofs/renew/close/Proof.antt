@@ -8,24 +8,19 @@ use Rattle.operations.proofs.renew.close.Reads as reads
 use Rattle.operations.proofs.renew.close.Lts as lts
 use Rattle.rules.proofs.broken.Reads as broken-reads
 
--- src/renew.rt:63:9
 broken-requires : tie.Need-broken-requires
 broken-requires c κs = search needs
 
--- src/renew.rt:66:19
 enum-told : tie.Need-enum-told
 enum-told c = search needs
 
--- src/renew.rt:70:19
 enum-told-2 : tie.Need-enum-told-2
 enum-told-2 c = search needs
 
--- src/renew.rt:60:1
 returns : tie.Need-returns
 unfolding closedRenew
 returns c = sym (closed-sound _ _ _ _ (c .before .before .broken .ensures) (c .enum-told .given .1))
 
--- src/renew.rt:60:1
 returns-2 : tie.Need-returns-2
 unfolding closedRenew
 returns-2 c = sym (closed-broken _ _ _ _ (c .before .before .broken .ensures) _ (c .enum-told2 .given .1))

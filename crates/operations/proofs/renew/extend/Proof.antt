@@ -4,12 +4,10 @@ use Rattle.operations.proofs.renew.extend.Tie as tie
 use Rattle.operations.proofs.renew.extend.Reads as reads
 use Rattle.operations.proofs.renew.extend.Lts as lts
 
--- src/renew.rt:33:1
 returns : tie.Need-returns
 unfolding extended
 returns c = rw (c .before .if1 .taken)
 
--- src/renew.rt:33:1
 returns-2 : tie.Need-returns-2
 unfolding extended
 returns-2 c = rw (c .if1 .left)

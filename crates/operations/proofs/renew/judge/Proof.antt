@@ -6,22 +6,18 @@ use Rattle.operations.proofs.renew.judge.Tie as tie
 use Rattle.operations.proofs.renew.judge.Reads as reads
 use Rattle.operations.proofs.renew.judge.Lts as lts
 
--- src/renew.rt:48:9
 returns : tie.Need-returns
 unfolding refuseIf
 returns c = simp (le-leb _ _ (c .if1 .taken))
 
--- src/renew.rt:51:9
 returns-2 : tie.Need-returns-2
 unfolding refuseIf
 returns-2 c = simp (lt-leb _ _ (c .before .before .if1 .left), le-leb _ _ (c .if2 .taken))
 
--- src/renew.rt:54:9
 returns-3 : tie.Need-returns-3
 unfolding refuseIf atLast
 returns-3 c = simp (lt-leb _ _ (c .before .before .before .if1 .left), lt-leb _ _ (c .before .if2 .left), eq-eqb _ _ (c .if3 .taken))
 
--- src/renew.rt:44:1
 returns-4 : tie.Need-returns-4
 unfolding refuseIf atLast
 returns-4 c = simp (lt-leb _ _ (c .before .before .before .if1 .left), lt-leb _ _ (c .before .if2 .left), ne-eqb _ _ (c .if3 .left))

@@ -8,7 +8,7 @@ use Rattle.lists.proofs.First.{placeOf, place-yes, place-no, place-end}
 use Rattle.lists.proofs.Loops.{length-of-mapped}
 use Rattle.state.specs.Locks.{hasId}
 use Rattle.state.specs.Model.{modelOf}
-use Rattle.operations.specs.Place.{placeIn}
+use Rattle.operations.specs.Code.{placeIn}
 use Rattle.operations.proofs.renew.place_of.Statement.{statement}
 use Rattle.operations.proofs.renew.place_of.Tie as tie
 use Rattle.operations.proofs.renew.place_of.Reads as reads
@@ -24,43 +24,34 @@ abbrev μ-loop : tie.MeasureT-loop
 long : (c : tie.Start Inv-loop μ-loop) → c .args .t1 .actives ≤ length (c .args .t1 .active)
 long c = let e : length (c .args .t1 .active) ≡ 64 = search (needs, length-of-mapped) in omega arith
 
--- src/renew.rt:23:5
 loop-holds : tie.Need-loop-holds Inv-loop μ-loop
 loop-holds c = (omega arith, refl)
 
--- src/renew.rt:24:17
 mul-a : tie.Need-mul-a Inv-loop μ-loop
 mul-a c = omega arith
 
--- src/renew.rt:24:17
 element-copy-out-a : tie.Need-element-copy-out-a Inv-loop μ-loop
 element-copy-out-a c = omega arith
 
--- src/renew.rt:25:12
 has-id-requires : tie.Need-has-id-requires Inv-loop μ-loop
 has-id-requires c κs = tt
 
--- src/renew.rt:26:13
 returns : tie.Need-returns Inv-loop μ-loop
 returns c =
     let b = c .before .before .before in
     sym (place-yes _ _ _ _ _ (b .loop-test .taken) (long (b .before .before)) (sym (c .before .has-id .ensures) ∙ c .if1 .taken)) ∙ b .before .loop .inv .1
 
--- src/renew.rt:28:9
 add-i : tie.Need-add-i Inv-loop μ-loop
 add-i c = omega arith
 
--- src/renew.rt:23:5
 loop-less : tie.Need-loop-less Inv-loop μ-loop
 loop-less c = omega arith
 
--- src/renew.rt:23:5
 loop-again : tie.Need-loop-again Inv-loop μ-loop
 loop-again c =
     let b = c .before .before .before in
     (omega arith, sym (place-no _ _ _ _ _ (b .loop-test .taken) (long (b .before .before)) (sym (c .before .has-id .ensures) ∙ c .if1 .left)) ∙ b .before .loop .inv .1)
 
--- src/renew.rt:17:1
 returns-2 : tie.Need-returns-2 Inv-loop μ-loop
 returns-2 c = sym (place-end _ _ _ _ (c .before .loop .inv .0) (c .loop-test .left)) ∙ c .before .loop .inv .1
 

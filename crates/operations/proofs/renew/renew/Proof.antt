@@ -42,15 +42,12 @@ index c = omega (arith, tidy (c .before .before) .active)
 last-fits : (c : tie.Start) → c .args .t1 .revision < 2 ^ 64
 last-fits c = omega arith
 
--- src/renew.rt:87:9
 broken-requires : tie.Need-broken-requires
 broken-requires c κs = search needs
 
--- src/renew.rt:88:28
 enum-known-v : tie.Need-enum-known-v
 enum-known-v c = search needs
 
--- src/renew.rt:89:9
 returns : tie.Need-returns
 unfolding renewOn
 returns c = on-broken _ _ _ _ _ (c .before .before .before .broken .ensures) (c .before .v .given .1)
@@ -58,30 +55,24 @@ returns c = on-broken _ _ _ _ _ (c .before .before .before .broken .ensures) (c 
 enum-told : tie.Need-enum-told
 enum-told c = search needs
 
--- src/renew.rt:94:9
 place-of-requires : tie.Need-place-of-requires
 place-of-requires c κs = tidy c .active
 
--- src/renew.rt:96:9
 returns-2 : tie.Need-returns-2
 returns-2 c = laws.absent _ _ _ _ _ _ (tested (c .before .before)) (tidy (c .before .before)) _ (c .before .place-of .ensures) (c .if1 .taken)
 
--- src/renew.rt:101:13
 mul-a : tie.Need-mul-a
 mul-a c = omega (arith, index c)
 
--- src/renew.rt:101:13
 element-copy-out-a : tie.Need-element-copy-out-a
 element-copy-out-a c = index c
 
--- src/renew.rt:102:9
 judge-requires : tie.Need-judge-requires
 judge-requires c κs = search needs
 
 enum-told-2 : tie.Need-enum-told-2
 enum-told-2 c = search needs
 
--- src/renew.rt:104:9
 returns-3 : tie.Need-returns-3
 unfolding blankActive
 returns-3 c =
@@ -89,31 +80,25 @@ returns-3 c =
     let b = f .before .before in
     laws.refused _ _ _ _ _ _ (tested b) (tidy b) _ (f .before .place-of .ensures) (f .if1 .left) _ (c .before .judge .ensures) (laws.kept _ (c .match2 .keys2) _ _)
 
--- src/renew.rt:106:9
 extend-requires : tie.Need-extend-requires
 extend-requires c κs = search needs
 
--- src/renew.rt:108:5
 mul-x : tie.Need-mul-x
 mul-x c = omega (arith, index (c .before .before .before .before .before))
 
--- src/renew.rt:108:5
 element-set-from-x : tie.Need-element-set-from-x
 element-set-from-x c = index (c .before .before .before .before .before)
 
--- src/renew.rt:109:21
 add-next : tie.Need-add-next
 unfolding blankActive
 add-next c =
     let p = c .before .before .before .before .before .before .before .before .before .before in
     let a = getD (p .args .t1 .active) (c .before .before .before .before .before .before .place-of .result) blankActive in
-    omega (arith, laws.can-rise (p .args .t1 .revision) (p .args .expires) (p .args .clock) a (sym (c .before .before .before .judge .ensures) ∙ c .before .enum-told2 .given .1), last-fits p)
+    omega (arith, laws.can-rise (p .args .t1 .revision) (p .args .expires) (p .args .now) a (sym (c .before .before .before .judge .ensures) ∙ c .before .enum-told2 .given .1), last-fits p)
 
--- src/renew.rt:110:5
 close-requires : tie.Need-close-requires
 close-requires c κs = search needs
 
--- src/renew.rt:77:1
 returns-4 : tie.Need-returns-4
 unfolding blankActive
 returns-4 c =

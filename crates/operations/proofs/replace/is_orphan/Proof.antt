@@ -12,7 +12,7 @@ has-id-requires : tie.Need-has-id-requires
 has-id-requires c κs = search needs
 
 returns : tie.Need-returns
-returns c = let o = c .before .before .before .before .before .before in orphan-is (o .args .x) (o .args .a) _ _ (c .before .before .before .before .is-vehicle .ensures) (c .before .before .before .has-id .ensures)
+returns c = let o = c .before .before .before .before .before .before in orphan-is (o .args .new) (o .args .a) _ _ (c .before .before .before .before .is-vehicle .ensures) (c .before .before .before .has-id .ensures)
 
 pub is-orphan-spec : {M : Type 1} → statement M
 is-orphan-spec = tie.close (tie.spec is-vehicle-requires has-id-requires returns)

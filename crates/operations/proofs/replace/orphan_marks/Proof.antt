@@ -27,43 +27,34 @@ abbrev μ-loop : tie.MeasureT-loop
 long : (c : tie.Start Inv-loop μ-loop) → length (c .args .t1) ≡ 64
 long c = search (needs, length-of-mapped)
 
--- src/replace.rt:151:5
 loop-holds : tie.Need-loop-holds Inv-loop μ-loop
 loop-holds c = (omega arith, (refl, refl))
 
--- src/replace.rt:152:17
 mul-a : tie.Need-mul-a Inv-loop μ-loop
 mul-a c = omega arith
 
--- src/replace.rt:152:17
 array-copy-out-a : tie.Need-array-copy-out-a Inv-loop μ-loop
 array-copy-out-a c = omega arith
 
--- src/replace.rt:153:20
 is-orphan-requires : tie.Need-is-orphan-requires Inv-loop μ-loop
 is-orphan-requires c κs = tt
 
--- src/replace.rt:153:9
 array-write-takes : tie.Need-array-write-takes Inv-loop μ-loop
 array-write-takes c = omega arith
 
--- src/replace.rt:154:9
 add-i : tie.Need-add-i Inv-loop μ-loop
 add-i c = omega arith
 
--- src/replace.rt:151:5
 loop-less : tie.Need-loop-less Inv-loop μ-loop
 loop-less c = omega arith
 
--- src/replace.rt:151:5
 loop-again : tie.Need-loop-again Inv-loop μ-loop
 unfolding blankActive
 loop-again c =
     let o = c .before .before .before .before in
     let l = c .before .before .before .loop in
-    (omega arith, copy-more (orphan (o .args .x)) 64 false (o .args .t1) (l .takes) (l .i) blankActive _ (l .inv .1) (omega arith) (omega (arith, long o)) (c .is-orphan .ensures))
+    (omega arith, copy-more (orphan (o .args .new)) 64 false (o .args .t1) (l .takes) (l .i) blankActive _ (l .inv .1) (omega arith) (omega (arith, long o)) (c .is-orphan .ensures))
 
--- src/replace.rt:145:1
 returns : tie.Need-returns Inv-loop μ-loop
 returns c =
     let e : c .before .loop .i ≡ c .before .before .args .n = omega arith in

@@ -22,31 +22,24 @@ Inv-loop n kept₀ i₀ kept i = (i ≤ n) × Holds 64 0 (upTo i) kept i
 abbrev μ-loop : tie.MeasureT-loop
 μ-loop n kept₀ i₀ kept i = n - i
 
--- src/trees.rt:129:5
 loop-holds : tie.Need-loop-holds Inv-loop μ-loop
 loop-holds c = (omega arith, (refl, refl))
 
--- src/trees.rt:130:9
 mul-kept : tie.Need-mul-kept Inv-loop μ-loop
 mul-kept c = omega arith
 
--- src/trees.rt:130:9
 array-write-kept : tie.Need-array-write-kept Inv-loop μ-loop
 array-write-kept c = omega arith
 
--- src/trees.rt:131:9
 add-i : tie.Need-add-i Inv-loop μ-loop
 add-i c = omega arith
 
--- src/trees.rt:129:5
 loop-less : tie.Need-loop-less Inv-loop μ-loop
 loop-less c = omega arith
 
--- src/trees.rt:129:5
 loop-again : tie.Need-loop-again Inv-loop μ-loop
 loop-again c = let l = c .before .loop in (omega arith, push 64 0 (upTo (l .i)) (upTo (l .i + 1)) (l .kept) (l .i) (l .i) (l .inv .1) (omega arith) (up-more (l .i)))
 
--- src/trees.rt:123:1
 returns : tie.Need-returns Inv-loop μ-loop
 returns c =
     let e : c .before .loop .i ≡ c .before .before .args .n = omega arith in

@@ -8,11 +8,9 @@ use Rattle.operations.proofs.trees.child_of.Reads as reads
 use Rattle.operations.proofs.trees.child_of.Lts as lts
 use Rattle.ids.proofs.same.Reads as same-reads
 
--- src/trees.rt:24:15
 same-requires : tie.Need-same-requires
 same-requires c κs = search needs
 
--- src/trees.rt:21:1
 returns : tie.Need-returns
 unfolding childOf sameId
 returns c = simp codes (rw (c .before .same .ensures))

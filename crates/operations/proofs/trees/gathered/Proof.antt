@@ -31,47 +31,36 @@ many c = search needs
 low : (c : tie.In-loop Inv-loop μ-loop) → getD (c .before .before .before .args .t2) (c .before .loop .i) 0 < 64
 low c = let o = c .before .before .before in low-of (o .args .t2) (o .args .n) (c .before .loop .i) (o .pre .1) (c .loop-test .taken) (omega (arith, many o, o .pre .0))
 
--- src/trees.rt:146:9
 blank-active-requires : tie.Need-blank-active-requires Inv-loop μ-loop
 blank-active-requires c κs = tt
 
--- src/trees.rt:149:5
 loop-holds : tie.Need-loop-holds Inv-loop μ-loop
 loop-holds c = (omega arith, (ap (replicate 64) (c .blank-active .ensures), refl))
 
--- src/trees.rt:150:17
 mul-j : tie.Need-mul-j Inv-loop μ-loop
 mul-j c = omega arith
 
--- src/trees.rt:150:17
 array-read-j : tie.Need-array-read-j Inv-loop μ-loop
 array-read-j c = omega arith
 
--- src/trees.rt:151:18
 mul-out : tie.Need-mul-out Inv-loop μ-loop
 mul-out c = omega (arith, low c)
 
--- src/trees.rt:151:18
 array-copy-out-out : tie.Need-array-copy-out-out Inv-loop μ-loop
 array-copy-out-out c = omega (arith, low c)
 
--- src/trees.rt:151:9
 mul-out-2 : tie.Need-mul-out-2 Inv-loop μ-loop
 mul-out-2 c = omega arith
 
--- src/trees.rt:151:9
 array-set-from-out : tie.Need-array-set-from-out Inv-loop μ-loop
 array-set-from-out c = omega arith
 
--- src/trees.rt:152:9
 add-i : tie.Need-add-i Inv-loop μ-loop
 add-i c = omega arith
 
--- src/trees.rt:149:5
 loop-less : tie.Need-loop-less Inv-loop μ-loop
 loop-less c = omega arith
 
--- src/trees.rt:149:5
 loop-again : tie.Need-loop-again Inv-loop μ-loop
 unfolding blankActive
 loop-again c =
@@ -79,7 +68,6 @@ loop-again c =
     let l = c .before .before .loop in
     (omega arith, copy-more (lockAt (o .args .t1)) 64 blankActive (o .args .t2) (l .out) (l .i) 0 _ (l .inv .1) (omega arith) (omega (arith, many o)) refl)
 
--- src/trees.rt:142:1
 returns : tie.Need-returns Inv-loop μ-loop
 returns c =
     let e : c .before .loop .i ≡ c .before .before .before .args .n = omega arith in

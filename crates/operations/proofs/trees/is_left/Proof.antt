@@ -30,49 +30,38 @@ long c = let e : length (c .args .t1 .kept) ≡ 64 = search (needs, length-of-ma
 low : (c : tie.In-loop Inv-loop μ-loop) → getD (c .before .before .args .t1 .kept) (c .before .loop .i) 0 < 64
 low c = let o = c .before .before in low-of (o .args .t1 .kept) (o .args .t1 .left) (c .before .loop .i) (o .pre .stays) (c .loop-test .taken) (long o)
 
--- src/trees.rt:101:5
 loop-holds : tie.Need-loop-holds Inv-loop μ-loop
 loop-holds c = (omega arith, refl)
 
--- src/trees.rt:102:17
 mul-j : tie.Need-mul-j Inv-loop μ-loop
 mul-j c = omega (arith, c .before .before .pre .room)
 
--- src/trees.rt:102:17
 element-copy-out-j : tie.Need-element-copy-out-j Inv-loop μ-loop
 element-copy-out-j c = omega (arith, c .before .before .pre .room)
 
--- src/trees.rt:103:9
 add-i : tie.Need-add-i Inv-loop μ-loop
 add-i c = omega arith
 
--- src/trees.rt:104:17
 mul-a : tie.Need-mul-a Inv-loop μ-loop
 mul-a c = omega (arith, low (c .before))
 
--- src/trees.rt:104:17
 array-copy-out-a : tie.Need-array-copy-out-a Inv-loop μ-loop
 array-copy-out-a c = omega (arith, low (c .before))
 
--- src/trees.rt:105:12
 has-id-requires : tie.Need-has-id-requires Inv-loop μ-loop
 has-id-requires c κs = tt
 
--- src/trees.rt:106:13
 returns : tie.Need-returns Inv-loop μ-loop
 unfolding blankActive
 returns c = let o = c .before .before .before .before .before .before in sym (any-yes (λ j. hasId (o .args .id) (lockAt (o .args .t2) j)) (o .args .t1 .kept) (o .args .t1 .left) (c .before .before .before .before .before .loop .i) 0 (c .before .before .before .before .loop-test .taken) (long o) (sym (c .before .has-id .ensures) ∙ c .if1 .taken)) ∙ c .before .before .before .before .before .loop .inv .1 ∙ any-map (lockAt (o .args .t2)) (hasId (o .args .id)) (halvesOf (o .args .t1) .kept)
 
--- src/trees.rt:101:5
 loop-less : tie.Need-loop-less Inv-loop μ-loop
 loop-less c = omega arith
 
--- src/trees.rt:101:5
 loop-again : tie.Need-loop-again Inv-loop μ-loop
 unfolding blankActive
 loop-again c = let o = c .before .before .before .before .before .before in (omega arith, sym (any-no (λ j. hasId (o .args .id) (lockAt (o .args .t2) j)) (o .args .t1 .kept) (o .args .t1 .left) (c .before .before .before .before .before .loop .i) 0 (c .before .before .before .before .loop-test .taken) (long o) (sym (c .before .has-id .ensures) ∙ c .if1 .left)) ∙ c .before .before .before .before .before .loop .inv .1)
 
--- src/trees.rt:95:1
 returns-2 : tie.Need-returns-2 Inv-loop μ-loop
 returns-2 c = let o = c .before .before in sym (any-end (λ j. hasId (o .args .id) (lockAt (o .args .t2) j)) _ _ _ (c .before .loop .inv .0) (c .loop-test .left)) ∙ c .before .loop .inv .1 ∙ any-map (lockAt (o .args .t2)) (hasId (o .args .id)) (halvesOf (o .args .t1) .kept)
 

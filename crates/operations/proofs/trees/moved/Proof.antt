@@ -13,7 +13,7 @@ gathered-requires-2 : tie.Need-gathered-requires-2
 gathered-requires-2 c κs = let o = c .before .before .before in (omega (arith, o .pre .room), o .pre .goes)
 
 returns : tie.Need-returns
-returns c = let o = c .before .before .before .before in split-is (o .args .l) (o .args .s) (o .pre) _ _ (c .before .gathered .ensures) (c .gathered2 .ensures)
+returns c = let o = c .before .before .before .before in split-is (o .args .locks) (o .args .s) (o .pre) _ _ (c .before .gathered .ensures) (c .gathered2 .ensures)
 
 pub moved-spec : {M : Type 1} → statement M
 moved-spec = tie.close (tie.spec gathered-requires gathered-requires-2 returns)

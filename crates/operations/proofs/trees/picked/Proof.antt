@@ -8,27 +8,21 @@ use Rattle.lookups.proofs.narrow_of.Reads as narrow-of-reads
 use Rattle.operations.proofs.trees.child_of.Reads as child-of-reads
 use Rattle.state.proofs.has_id.Reads as has-id-reads
 
--- src/trees.rt:32:14
 child-of-requires : tie.Need-child-of-requires
 child-of-requires c κs = search needs
 
--- src/trees.rt:33:14
 narrow-of-requires : tie.Need-narrow-of-requires
 narrow-of-requires c κs = search needs
 
--- src/trees.rt:34:14
 has-id-requires : tie.Need-has-id-requires
 has-id-requires c κs = search needs
 
--- src/trees.rt:28:1
 returns : tie.Need-returns
 returns c = picks-0 _ _ _ _ (c .before .match .keys1) (c .child-of .ensures)
 
--- src/trees.rt:28:1
 returns-2 : tie.Need-returns-2
 returns-2 c = picks-1 _ _ _ _ (c .before .match .keys2) (c .narrow-of .ensures)
 
--- src/trees.rt:28:1
 returns-3 : tie.Need-returns-3
 returns-3 c = picks-2 _ _ _ _ (c .before .match .rest .0 .1) (c .before .match .rest .1) (c .has-id .ensures)
 

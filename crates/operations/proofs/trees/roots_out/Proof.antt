@@ -31,39 +31,30 @@ small c = c .pre .room
 long : (c : tie.Start Inv-loop μ-loop) → c .args .n ≤ length (c .args .t1)
 long c = placed-long (c .args .t1) (c .args .n) (c .pre)
 
--- src/trees.rt:185:9
 all-places-requires : tie.Need-all-places-requires Inv-loop μ-loop
 all-places-requires c κs = c .before .pre .room
 
--- src/trees.rt:187:5
 loop-holds : tie.Need-loop-holds Inv-loop μ-loop
 loop-holds c = (omega arith, c .all-places .ensures)
 
--- src/trees.rt:188:17
 mul-r : tie.Need-mul-r Inv-loop μ-loop
 mul-r c = omega (arith, small (c .before .before .before .before))
 
--- src/trees.rt:188:17
 array-copy-out-r : tie.Need-array-copy-out-r Inv-loop μ-loop
 array-copy-out-r c = omega (arith, small (c .before .before .before .before))
 
--- src/trees.rt:189:9
 add-at : tie.Need-add-at Inv-loop μ-loop
 add-at c = omega arith
 
--- src/trees.rt:190:12
 listed-requires : tie.Need-listed-requires Inv-loop μ-loop
 listed-requires c κs = tt
 
--- src/trees.rt:191:13
 root-out-requires : tie.Need-root-out-requires Inv-loop μ-loop
 root-out-requires c κs = let o = c .before .before .before .before .before .before .before in out-sorting (o .args .list .now) (o .args .t1) (o .args .n) (c .before .before .before .before .loop .at) (o .pre) _ (c .before .before .before .before .loop .inv .1)
 
--- src/trees.rt:187:5
 loop-less : tie.Need-loop-less Inv-loop μ-loop
 loop-less c = omega arith
 
--- src/trees.rt:187:5
 loop-again : tie.Need-loop-again Inv-loop μ-loop
 unfolding blankActive
 loop-again c =
@@ -71,11 +62,9 @@ loop-again c =
     let l = c .before .before .before .before .before .loop in
     (omega arith, roots-more (o .args .list .now) (o .args .t1) (o .args .n) (l .at) (o .pre) _ (l .inv .1) blankActive (omega (arith, long o)) _ (c .before .before .listed .ensures) _ (c .before .if1 .taken) (c .root-out .ensures))
 
--- src/trees.rt:187:5
 loop-less-2 : tie.Need-loop-less-2 Inv-loop μ-loop
 loop-less-2 c = omega arith
 
--- src/trees.rt:187:5
 loop-again-2 : tie.Need-loop-again-2 Inv-loop μ-loop
 unfolding blankActive
 loop-again-2 c =
@@ -83,11 +72,9 @@ loop-again-2 c =
     let l = c .before .before .before .before .loop in
     (omega arith, roots-same (o .args .list .now) (o .args .t1) (o .args .n) (l .at) (o .pre) _ (l .inv .1) blankActive (omega (arith, long o)) _ (c .before .listed .ensures) (c .if1 .left))
 
--- src/trees.rt:194:5
 moved-requires : tie.Need-moved-requires Inv-loop μ-loop
 moved-requires c κs = let o = c .before .before .before .before in out-sorting (o .args .list .now) (o .args .t1) (o .args .n) (c .before .loop .at) (o .pre) _ (c .before .loop .inv .1)
 
--- src/trees.rt:181:1
 returns : tie.Need-returns Inv-loop μ-loop
 returns c =
     let o = c .before .before .before .before .before in

@@ -35,51 +35,39 @@ small c = c .pre .room
 low : (c : tie.In-loop Inv-loop μ-loop) → getD (c .before .before .before .args .t1 .kept) (c .before .loop .i) 0 < 64
 low c = let o = c .before .before .before in low-of (o .args .t1 .kept) (o .args .t1 .left) (c .before .loop .i) (o .pre .stays) (c .loop-test .taken) (omega (arith, many o, small o))
 
--- src/trees.rt:66:5
 loop-holds : tie.Need-loop-holds Inv-loop μ-loop
 loop-holds c = let o = c .before in (omega arith, omega arith, (refl, refl), gone-start (o .args .t1) (o .pre))
 
--- src/trees.rt:67:17
 mul-j : tie.Need-mul-j Inv-loop μ-loop
 mul-j c = omega (arith, small (c .before .before .before))
 
--- src/trees.rt:67:17
 element-copy-out-j : tie.Need-element-copy-out-j Inv-loop μ-loop
 element-copy-out-j c = omega (arith, small (c .before .before .before))
 
--- src/trees.rt:68:9
 add-i : tie.Need-add-i Inv-loop μ-loop
 add-i c = omega arith
 
--- src/trees.rt:69:17
 mul-a : tie.Need-mul-a Inv-loop μ-loop
 mul-a c = omega (arith, low (c .before))
 
--- src/trees.rt:69:17
 array-copy-out-a : tie.Need-array-copy-out-a Inv-loop μ-loop
 array-copy-out-a c = omega (arith, low (c .before))
 
--- src/trees.rt:70:12
 picked-requires : tie.Need-picked-requires Inv-loop μ-loop
 picked-requires c κs = tt
 
--- src/trees.rt:71:13
 mul-went : tie.Need-mul-went Inv-loop μ-loop
 mul-went c = omega (arith, small (c .before .before .before .before .before .before .before))
 
--- src/trees.rt:71:13
 array-write-went : tie.Need-array-write-went Inv-loop μ-loop
 array-write-went c = omega (arith, small (c .before .before .before .before .before .before .before))
 
--- src/trees.rt:72:13
 add-g : tie.Need-add-g Inv-loop μ-loop
 add-g c = omega (arith, small (c .before .before .before .before .before .before .before))
 
--- src/trees.rt:66:5
 loop-less : tie.Need-loop-less Inv-loop μ-loop
 loop-less c = omega arith
 
--- src/trees.rt:66:5
 loop-again : tie.Need-loop-again Inv-loop μ-loop
 unfolding blankActive
 loop-again c =
@@ -89,23 +77,18 @@ loop-again c =
     let j : l .i < length (o .args .t1 .kept) = omega (arith, many o, small o) in
     (omega arith, omega arith, kept-no q 0 0 (o .args .t1 .kept) (halvesOf (o .args .t1) .gone) (l .i) _ j (c .before .picked .ensures) (l .kept) (l .w) (l .inv .2) (c .if1 .taken), gone-yes q 0 0 (o .args .t1 .kept) (halvesOf (o .args .t1) .gone) (l .i) _ j (c .before .picked .ensures) (l .went) (l .g) (l .inv .3) (omega (arith, small o)) (c .if1 .taken))
 
--- src/trees.rt:74:13
 mul-kept : tie.Need-mul-kept Inv-loop μ-loop
 mul-kept c = omega (arith, small (c .before .before .before .before .before .before .before))
 
--- src/trees.rt:74:13
 array-write-kept : tie.Need-array-write-kept Inv-loop μ-loop
 array-write-kept c = omega (arith, small (c .before .before .before .before .before .before .before))
 
--- src/trees.rt:75:13
 add-w : tie.Need-add-w Inv-loop μ-loop
 add-w c = omega (arith, small (c .before .before .before .before .before .before .before))
 
--- src/trees.rt:66:5
 loop-less-2 : tie.Need-loop-less-2 Inv-loop μ-loop
 loop-less-2 c = omega arith
 
--- src/trees.rt:66:5
 loop-again-2 : tie.Need-loop-again-2 Inv-loop μ-loop
 unfolding blankActive
 loop-again-2 c =
@@ -115,7 +98,6 @@ loop-again-2 c =
     let j : l .i < length (o .args .t1 .kept) = omega (arith, many o, small o) in
     (omega arith, omega arith, kept-yes q 0 0 (o .args .t1 .kept) (halvesOf (o .args .t1) .gone) (l .i) _ j (c .before .picked .ensures) (l .kept) (l .w) (l .inv .2) (omega (arith, small o)) (c .if1 .left), gone-no q 0 0 (o .args .t1 .kept) (halvesOf (o .args .t1) .gone) (l .i) _ j (c .before .picked .ensures) (l .went) (l .g) (l .inv .3) (c .if1 .left))
 
--- src/trees.rt:56:1
 returns : tie.Need-returns Inv-loop μ-loop
 returns c =
     let o = c .before .before .before in

@@ -24,7 +24,7 @@ u32-at-requires c κs = search needs
 returns-2 : tie.Need-returns-2
 returns-2 c =
     is-good (numbered expiration) (asked BeginExpiration) BadField (now (c .before .before .before .before .before .args .s)) _ (c .before .before .before .if1 .left) (and-i _ _ refl refl)
-    (λ i. (c .u32-at .ensures i, record { id = c .before .before .id-at .ensures i; time = c .before .u64-at .ensures i }))
+    (λ i. (c .u32-at .ensures i, record { id = c .before .before .id-at .ensures i; now = c .before .u64-at .ensures i }))
 
 pub read-begin-expiration-spec : {M : Type 1} → statement M
 read-begin-expiration-spec =

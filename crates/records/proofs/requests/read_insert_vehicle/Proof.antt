@@ -13,7 +13,7 @@ use Rattle.records.proofs.requests.read_insert_vehicle.Statement.{state
 use Rattle.records.proofs.requests.read_insert_vehicle.Tie as tie
 
 returns : tie.Need-returns
-returns c = is-miscounted (numbered active) (asked InsertVehicle) BadField (now (c .before .before .args .s)) (λ e. omega (arith, e, c .if1 .taken))
+returns c = is-miscounted 2 16 (numbered active) (asked InsertVehicle) BadField (now (c .before .before .args .s)) (λ e. omega (arith, e, c .if1 .taken))
 
 sub-if2 : tie.Need-sub-if2
 sub-if2 c = search needs
@@ -29,7 +29,7 @@ mul-if2 c = search needs
 
 returns-2 : tie.Need-returns-2
 returns-2 c =
-    is-miscounted (numbered active) (asked InsertVehicle) BadField (now (c .before .before .before .before .args .s))
+    is-miscounted 2 16 (numbered active) (asked InsertVehicle) BadField (now (c .before .before .before .before .args .s))
     (λ e. c .if2 .taken (omega (arith, e, c .before .u16-at .ensures)))
 
 sub-body : tie.Need-sub-body
@@ -53,14 +53,14 @@ u32-at-requires c κs = search needs
 returns-3 : tie.Need-returns-3
 returns-3 c =
     let s = now (c .before .before .before .before .before .before .before .before .before .args .s) in
-    is-counted (numbered active) (asked InsertVehicle) BadField s _ (omega (arith, c .before .before .before .before .before .if2 .left, c .before .before .before .before .before .before .before .if1 .left, c .before .before .before .before .before .before .u16-at .ensures))
+    is-counted 2 16 (numbered active) (asked InsertVehicle) BadField s _ (omega (arith, c .before .before .before .before .before .if2 .left, c .before .before .before .before .before .before .before .if1 .left, c .before .before .before .before .before .before .u16-at .ensures))
     (vehicle-right s ∙ sym (c .before .before .before .active-right .ensures) ∙ c .before .before .if3 .taken)
     (ap₂ pair (c .u32-at .ensures) (c .before .active-made .ensures ∙ ap (active .made) (sym (active-part s))))
 
 returns-4 : tie.Need-returns-4
 returns-4 c =
     let s = now (c .before .before .before .before .before .before .before .args .s) in
-    is-wrong-counted (numbered active) (asked InsertVehicle) BadField s (vehicle-right s ∙ sym (c .before .active-right .ensures) ∙ c .if3 .left)
+    is-wrong-counted 2 16 (numbered active) (asked InsertVehicle) BadField s (vehicle-right s ∙ sym (c .before .active-right .ensures) ∙ c .if3 .left)
 
 pub read-insert-vehicle-spec : {M : Type 1} → statement M
 read-insert-vehicle-spec =

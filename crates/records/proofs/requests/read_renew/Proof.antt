@@ -43,7 +43,7 @@ returns-2 c =
       record {
         id = c .before .before .before .id-at .ensures i;
         expires = c .before .before .u64-at .ensures i;
-        time = c .before .u64-at2 .ensures i;
+        now = c .before .u64-at2 .ensures i;
         metadata = c .before .before .before .before .before .before .u32-at .ensures i;
         given = eqb (c .before .before .before .before .before .before .before .u8-at .ensures i) 1;
       },

@@ -12,7 +12,7 @@ use Rattle.records.proofs.requests.read_replace.Statement.{statement}
 use Rattle.records.proofs.requests.read_replace.Tie as tie
 
 returns : tie.Need-returns
-returns c = is-miscounted (numbered replacement) (asked Replace) BadField (now (c .before .before .args .s)) (λ e. omega (arith, e, c .if1 .taken))
+returns c = is-miscounted 2 16 (numbered replacement) (asked Replace) BadField (now (c .before .before .args .s)) (λ e. omega (arith, e, c .if1 .taken))
 
 sub-if2 : tie.Need-sub-if2
 sub-if2 c = search needs
@@ -28,7 +28,7 @@ mul-if2 c = search needs
 
 returns-2 : tie.Need-returns-2
 returns-2 c =
-    is-miscounted (numbered replacement) (asked Replace) BadField (now (c .before .before .before .before .args .s))
+    is-miscounted 2 16 (numbered replacement) (asked Replace) BadField (now (c .before .before .before .before .args .s))
     (λ e. c .if2 .taken (omega (arith, e, c .before .u16-at .ensures)))
 
 sub-body : tie.Need-sub-body
@@ -58,7 +58,7 @@ u32-at-requires-2 c κs = search needs
 returns-3 : tie.Need-returns-3
 returns-3 c =
     let s = now (c .before .before .before .before .before .before .before .before .before .before .before .args .s) in
-    is-counted (numbered replacement) (asked Replace) BadField s _ (omega (arith, c .before .before .before .before .before .before .before .if2 .left, c .before .before .before .before .before .before .before .before .before .if1 .left, c .before .before .before .before .before .before .before .before .u16-at .ensures))
+    is-counted 2 16 (numbered replacement) (asked Replace) BadField s _ (omega (arith, c .before .before .before .before .before .before .before .if2 .left, c .before .before .before .before .before .before .before .before .before .if1 .left, c .before .before .before .before .before .before .before .before .u16-at .ensures))
     (replace-right s ∙ sym (c .before .before .before .before .before .active-right .ensures) ∙ c .before .before .before .before .if3 .taken)
     (λ i. (
       c .u32-at2 .ensures i,
@@ -72,7 +72,7 @@ returns-3 c =
 returns-4 : tie.Need-returns-4
 returns-4 c =
     let s = now (c .before .before .before .before .before .before .before .args .s) in
-    is-wrong-counted (numbered replacement) (asked Replace) BadField s (replace-right s ∙ sym (c .before .active-right .ensures) ∙ c .if3 .left)
+    is-wrong-counted 2 16 (numbered replacement) (asked Replace) BadField s (replace-right s ∙ sym (c .before .active-right .ensures) ∙ c .if3 .left)
 
 pub read-replace-spec : {M : Type 1} → statement M
 read-replace-spec =

@@ -13,7 +13,7 @@ use Rattle.ids.specs.declared.LockId.{LockId}
 use Rattle.ids.specs.Order.{sameId}
 use Rattle.coverage.specs.declared.LockCoverage.{LockCoverage}
 use Rattle.coverage.specs.Coverage.{within}
-use Rattle.rules.specs.Places.{idAt, coverAt}
+use Rattle.rules.specs.Code.{idAt, coverAt}
 use Rattle.rules.proofs.Family.{low-empty, low-two, low-three, low-four, low-five, low-six, low-seven, low-eight, low-none}
 use borrow.Author.Needs.{needs}
 use Rattle.rules.proofs.actives.lowest.Statement.{statement}
@@ -54,87 +54,66 @@ inside-is c =
     let p = c .before .before .before .before .before .before .before .before .before .before .before .before .before .before .before .before .before .before .before .before .before .args in
     c .inside .ensures ∙ ap (λ (x : LockCoverage). allBelow (p .n) (λ i. getD (p .child .now) i false imp within (coverAt (p .words .now) (p .whole .now) i) x)) (c .before .cover-at .ensures)
 
--- src/actives.rt:22:9
 returns : tie.Need-returns
 returns c = λ m k s. low-empty _ _ _ _ _ _ _ _ _ k (c .if1 .taken)
 
--- src/actives.rt:24:9
 one-each-requires : tie.Need-one-each-requires
 one-each-requires c κs = search needs
 
--- src/actives.rt:25:9
 returns-2 : tie.Need-returns-2
 returns-2 c = λ m k s. low-two _ _ _ _ _ _ _ _ _ k s (sym (c .before .one-each .ensures) ∙ not-true _ (c .if2 .taken))
 
--- src/actives.rt:27:9
 vehicle-requires : tie.Need-vehicle-requires
 vehicle-requires c κs = search needs
 
--- src/actives.rt:29:50
 id-at-requires : tie.Need-id-at-requires
 id-at-requires c κs = omega (arith, spot c .1, c .before .before .before .before .before .before .before .before .before .before .before .before .pre .0 .ids-fit)
 
--- src/actives.rt:29:9
 under-requires : tie.Need-under-requires
 under-requires c κs = search needs
 
--- src/actives.rt:30:12
 active-requires : tie.Need-active-requires
 active-requires c κs = search needs
 
--- src/actives.rt:31:13
 returns-3 : tie.Need-returns-3
 returns-3 c = λ m k s. low-four _ _ _ _ _ _ _ _ _ k s (c .before .before .before .before .before .before .vehicle .result) (c .before .before .before .before .before .if3 .p) (c .before .before .before .before .before .before .vehicle .ensures) (spot (c .before .before .before .before .before) .0) (twos (c .before .before .before .before .before .before .before)) (sym (under-is (c .before .before .before)) ∙ not-true _ (c .before .before .if4 .taken)) (sym (c .before .active .ensures) ∙ c .if5 .taken)
 
--- src/actives.rt:33:9
 returns-4 : tie.Need-returns-4
 returns-4 c = λ m k s. low-three _ _ _ _ _ _ _ _ _ k s (c .before .before .before .before .before .before .vehicle .result) (c .before .before .before .before .before .if3 .p) (c .before .before .before .before .before .before .vehicle .ensures) (spot (c .before .before .before .before .before) .0) (twos (c .before .before .before .before .before .before .before)) (sym (c .before .active .ensures) ∙ c .if5 .left)
 
--- src/actives.rt:35:44
 mul-owned : tie.Need-mul-owned
 mul-owned c = omega (arith, spot (c .before .before .before .before) .1, c .before .before .before .before .before .before .before .before .before .before .before .before .before .before .before .before .pre .0 .subjects-fit)
 
--- src/actives.rt:35:44
 shared-slice-read-owned : tie.Need-shared-slice-read-owned
 shared-slice-read-owned c = omega (arith, spot (c .before .before .before .before .before) .1, c .before .before .before .before .before .before .before .before .before .before .before .before .before .before .before .before .before .pre .0 .subjects-fit)
 
--- src/actives.rt:35:9
 owned-requires : tie.Need-owned-requires
 owned-requires c κs = search needs
 
--- src/actives.rt:36:9
 returns-5 : tie.Need-returns-5
 returns-5 c = λ m k s. low-five _ _ _ _ _ _ _ _ _ k s (c .before .before .before .before .before .before .before .before .vehicle .result) (c .before .before .before .before .before .before .before .if3 .p) (c .before .before .before .before .before .before .before .before .vehicle .ensures) (spot (c .before .before .before .before .before .before .before) .0) (twos (c .before .before .before .before .before .before .before .before .before)) (sym (under-is (c .before .before .before .before .before)) ∙ not-false _ (c .before .before .before .before .if4 .left)) (sym (c .before .owned .ensures) ∙ not-true _ (c .if6 .taken))
 
--- src/actives.rt:38:49
 cover-at-requires : tie.Need-cover-at-requires
 cover-at-requires c κs = (omega (arith, spot (c .before .before .before .before .before .before .before) .1, c .before .before .before .before .before .before .before .before .before .before .before .before .before .before .before .before .before .before .before .pre .0 .words-fit), omega (arith, spot (c .before .before .before .before .before .before .before) .1, c .before .before .before .before .before .before .before .before .before .before .before .before .before .before .before .before .before .before .before .pre .0 .whole-fit))
 
--- src/actives.rt:38:9
 inside-requires : tie.Need-inside-requires
 inside-requires c κs = (c .before .before .before .before .before .before .before .before .before .before .before .before .before .before .before .before .before .before .before .before .pre .0 .words-fit, c .before .before .before .before .before .before .before .before .before .before .before .before .before .before .before .before .before .before .before .before .pre .0 .whole-fit, c .before .before .before .before .before .before .before .before .before .before .before .before .before .before .before .before .before .before .before .before .pre .0 .child-fit)
 
--- src/actives.rt:39:9
 returns-6 : tie.Need-returns-6
 returns-6 c = λ m k s. low-six _ _ _ _ _ _ _ _ _ k s (c .before .before .before .before .before .before .before .before .before .before .before .vehicle .result) (c .before .before .before .before .before .before .before .before .before .before .if3 .p) (c .before .before .before .before .before .before .before .before .before .before .before .vehicle .ensures) (spot (c .before .before .before .before .before .before .before .before .before .before) .0) (twos (c .before .before .before .before .before .before .before .before .before .before .before .before)) (sym (under-is (c .before .before .before .before .before .before .before .before)) ∙ not-false _ (c .before .before .before .before .before .before .before .if4 .left)) (sym (c .before .before .before .before .owned .ensures) ∙ not-false _ (c .before .before .before .if6 .left)) (sym (inside-is (c .before)) ∙ not-true _ (c .if7 .taken))
 
--- src/actives.rt:41:9
 rootless-requires : tie.Need-rootless-requires
 rootless-requires c κs = (c .before .before .before .before .before .before .before .before .before .before .before .before .before .before .before .before .before .before .before .before .before .before .pre .0 .scopes-fit, c .before .before .before .before .before .before .before .before .before .before .before .before .before .before .before .before .before .before .before .before .before .before .pre .0 .child-fit)
 
--- src/actives.rt:42:9
 returns-7 : tie.Need-returns-7
 returns-7 c = λ m k s. low-seven _ _ _ _ _ _ _ _ _ k s (c .before .before .before .before .before .before .before .before .before .before .before .before .before .vehicle .result) (c .before .before .before .before .before .before .before .before .before .before .before .before .if3 .p) (c .before .before .before .before .before .before .before .before .before .before .before .before .before .vehicle .ensures) (spot (c .before .before .before .before .before .before .before .before .before .before .before .before) .0) (twos (c .before .before .before .before .before .before .before .before .before .before .before .before .before .before)) (sym (under-is (c .before .before .before .before .before .before .before .before .before .before)) ∙ not-false _ (c .before .before .before .before .before .before .before .before .before .if4 .left)) (sym (c .before .before .before .before .before .before .owned .ensures) ∙ not-false _ (c .before .before .before .before .before .if6 .left)) (sym (inside-is (c .before .before .before)) ∙ not-false _ (c .before .before .if7 .left)) (sym (c .before .rootless .ensures) ∙ not-true _ (c .if8 .taken))
 
--- src/actives.rt:44:9
 friends-requires : tie.Need-friends-requires
 friends-requires c κs = (c .before .before .before .before .before .before .before .before .before .before .before .before .before .before .before .before .before .before .before .before .before .before .before .before .pre .0 .words-fit, c .before .before .before .before .before .before .before .before .before .before .before .before .before .before .before .before .before .before .before .before .before .before .before .before .pre .0 .whole-fit, c .before .before .before .before .before .before .before .before .before .before .before .before .before .before .before .before .before .before .before .before .before .before .before .before .pre .0 .scopes-fit, c .before .before .before .before .before .before .before .before .before .before .before .before .before .before .before .before .before .before .before .before .before .before .before .before .pre .0 .subjects-fit)
 
--- src/actives.rt:45:9
 returns-8 : tie.Need-returns-8
 returns-8 c = λ m k s. low-eight _ _ _ _ _ _ _ _ _ k s (c .before .before .before .before .before .before .before .before .before .before .before .before .before .before .before .vehicle .result) (c .before .before .before .before .before .before .before .before .before .before .before .before .before .before .if3 .p) (c .before .before .before .before .before .before .before .before .before .before .before .before .before .before .before .vehicle .ensures) (spot (c .before .before .before .before .before .before .before .before .before .before .before .before .before .before) .0) (twos (c .before .before .before .before .before .before .before .before .before .before .before .before .before .before .before .before)) (sym (under-is (c .before .before .before .before .before .before .before .before .before .before .before .before)) ∙ not-false _ (c .before .before .before .before .before .before .before .before .before .before .before .if4 .left)) (sym (c .before .before .before .before .before .before .before .before .owned .ensures) ∙ not-false _ (c .before .before .before .before .before .before .before .if6 .left)) (sym (inside-is (c .before .before .before .before .before)) ∙ not-false _ (c .before .before .before .before .if7 .left)) (sym (c .before .before .before .rootless .ensures) ∙ not-false _ (c .before .before .if8 .left)) (sym (c .before .friends .ensures) ∙ not-true _ (c .if9 .taken))
 
--- src/actives.rt:17:1
 returns-9 : tie.Need-returns-9
 returns-9 c = λ m k s. low-none _ _ _ _ _ _ _ _ _ k s (c .before .before .before .before .before .before .before .before .before .before .before .before .before .before .before .vehicle .result) (c .before .before .before .before .before .before .before .before .before .before .before .before .before .before .if3 .p) (c .before .before .before .before .before .before .before .before .before .before .before .before .before .before .before .vehicle .ensures) (spot (c .before .before .before .before .before .before .before .before .before .before .before .before .before .before) .0) (twos (c .before .before .before .before .before .before .before .before .before .before .before .before .before .before .before .before)) (sym (under-is (c .before .before .before .before .before .before .before .before .before .before .before .before)) ∙ not-false _ (c .before .before .before .before .before .before .before .before .before .before .before .if4 .left)) (sym (c .before .before .before .before .before .before .before .before .owned .ensures) ∙ not-false _ (c .before .before .before .before .before .before .before .if6 .left)) (sym (inside-is (c .before .before .before .before .before)) ∙ not-false _ (c .before .before .before .before .if7 .left)) (sym (c .before .before .before .rootless .ensures) ∙ not-false _ (c .before .before .if8 .left)) (sym (c .before .friends .ensures) ∙ not-false _ (c .if9 .left))
 

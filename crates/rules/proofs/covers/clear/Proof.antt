@@ -20,55 +20,42 @@ Inv-loop words whole scopes subjects i x u v j₀ j = (j ≤ i) × ((k : ℕ) �
 abbrev μ-loop : tie.MeasureT-loop
 μ-loop words whole scopes subjects i x u v j₀ j = i - j
 
--- src/covers.rt:49:9
 cover-at-requires : tie.Need-cover-at-requires Inv-loop μ-loop
 cover-at-requires c κs = (omega arith, omega arith)
 
--- src/covers.rt:50:13
 mul-u : tie.Need-mul-u Inv-loop μ-loop
 mul-u c = omega arith
 
--- src/covers.rt:50:13
 shared-slice-read-u : tie.Need-shared-slice-read-u Inv-loop μ-loop
 shared-slice-read-u c = omega arith
 
--- src/covers.rt:51:13
 mul-v : tie.Need-mul-v Inv-loop μ-loop
 mul-v c = omega arith
 
--- src/covers.rt:51:13
 shared-slice-read-v : tie.Need-shared-slice-read-v Inv-loop μ-loop
 shared-slice-read-v c = omega arith
 
--- src/covers.rt:53:5
 loop-holds : tie.Need-loop-holds Inv-loop μ-loop
 loop-holds c = (omega arith, λ k h. absurd (omega arith))
 
--- src/covers.rt:54:13
 cover-at-requires-2 : tie.Need-cover-at-requires-2 Inv-loop μ-loop
 cover-at-requires-2 c κs = (omega arith, omega arith)
 
--- src/covers.rt:55:17
 mul-w : tie.Need-mul-w Inv-loop μ-loop
 mul-w c = omega arith
 
--- src/covers.rt:55:17
 shared-slice-read-w : tie.Need-shared-slice-read-w Inv-loop μ-loop
 shared-slice-read-w c = omega arith
 
--- src/covers.rt:56:22
 mul-f : tie.Need-mul-f Inv-loop μ-loop
 mul-f c = omega arith
 
--- src/covers.rt:56:22
 shared-slice-read-f : tie.Need-shared-slice-read-f Inv-loop μ-loop
 shared-slice-read-f c = omega arith
 
--- src/covers.rt:57:22
 overlaps-requires : tie.Need-overlaps-requires Inv-loop μ-loop
 overlaps-requires c κs = tt
 
--- src/covers.rt:58:13
 returns : tie.Need-returns Inv-loop μ-loop
 returns c =
     let o = c .before .before .before .before .before .before in
@@ -76,15 +63,12 @@ returns c =
     sym (all-no (p .i) (λ j. non (clashAt (p .words .now) (p .whole .now) (p .scopes .now) (p .subjects .now) (p .i) j)) (o .loop .j) (c .before .before .before .before .before .loop-test .taken)
     (clash-yes (p .words .now) (p .whole .now) (p .scopes .now) (p .subjects .now) (p .i) (o .loop .j) _ _ _ (c .before .overlaps .ensures) (o .before .before .before .cover-at .ensures) (c .before .before .before .before .cover-at2 .ensures) (c .if1 .taken)))
 
--- src/covers.rt:60:9
 add-j : tie.Need-add-j Inv-loop μ-loop
 add-j c = omega arith
 
--- src/covers.rt:53:5
 loop-less : tie.Need-loop-less Inv-loop μ-loop
 loop-less c = omega arith
 
--- src/covers.rt:53:5
 loop-again : tie.Need-loop-again Inv-loop μ-loop
 loop-again c =
     let o = c .before .before .before .before .before .before in
@@ -94,7 +78,6 @@ loop-again c =
           (clash-no (p .words .now) (p .whole .now) (p .scopes .now) (p .subjects .now) (p .i) (o .loop .j) _ _ _ (c .before .overlaps .ensures) (o .before .before .before .cover-at .ensures) (c .before .before .before .before .cover-at2 .ensures) (c .if1 .left)),
     )
 
--- src/covers.rt:45:1
 returns-2 : tie.Need-returns-2 Inv-loop μ-loop
 returns-2 c =
     let o = c .before in

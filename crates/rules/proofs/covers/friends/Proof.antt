@@ -24,19 +24,15 @@ Inv-loop words whole scopes subjects n same₀ all₀ i₀ same all i = (i ≤ n
 abbrev μ-loop : tie.MeasureT-loop
 μ-loop words whole scopes subjects n same₀ all₀ i₀ same all i = n - i
 
--- src/covers.rt:87:9
 empty-requires : tie.Need-empty-requires Inv-loop μ-loop
 empty-requires c κs = tt
 
--- src/covers.rt:89:5
 loop-holds : tie.Need-loop-holds Inv-loop μ-loop
 loop-holds c = (omega arith, record { friends = λ t j h. absurd (omega arith); covered = λ j h. absurd (omega arith) }, λ k h. absurd (omega arith))
 
--- src/covers.rt:90:13
 settled-requires : tie.Need-settled-requires Inv-loop μ-loop
 settled-requires c κs = (omega arith, omega arith, omega arith, omega arith, c .before .loop .inv .1)
 
--- src/covers.rt:91:13
 returns : tie.Need-returns Inv-loop μ-loop
 returns c =
     let o = c .before .before .before in
@@ -44,43 +40,33 @@ returns c =
     sym (all-no (p .n) (λ i. allBelow i (λ j. non (clashAt (p .words .now) (p .whole .now) (p .scopes .now) (p .subjects .now) i j))) (o .loop .i) (c .before .before .loop-test .taken)
     (sym (c .before .settled .ensures) ∙ not-true _ (c .if1 .taken)))
 
--- src/covers.rt:93:17
 mul-v : tie.Need-mul-v Inv-loop μ-loop
 mul-v c = omega arith
 
--- src/covers.rt:93:17
 shared-slice-read-v : tie.Need-shared-slice-read-v Inv-loop μ-loop
 shared-slice-read-v c = omega arith
 
--- src/covers.rt:94:13
 cover-at-requires : tie.Need-cover-at-requires Inv-loop μ-loop
 cover-at-requires c κs = (omega arith, omega arith)
 
--- src/covers.rt:95:9
 grown-requires : tie.Need-grown-requires Inv-loop μ-loop
 grown-requires c κs = tt
 
--- src/covers.rt:96:29
 mul-same : tie.Need-mul-same Inv-loop μ-loop
 mul-same c = omega arith
 
--- src/covers.rt:96:29
 shared-slice-read-same : tie.Need-shared-slice-read-same Inv-loop μ-loop
 shared-slice-read-same c = omega arith
 
--- src/covers.rt:96:44
 shared-slice-read-same-2 : tie.Need-shared-slice-read-same-2 Inv-loop μ-loop
 shared-slice-read-same-2 c = omega arith
 
--- src/covers.rt:97:9
 add-i : tie.Need-add-i Inv-loop μ-loop
 add-i c = omega arith
 
--- src/covers.rt:89:5
 loop-less : tie.Need-loop-less Inv-loop μ-loop
 loop-less c = omega arith
 
--- src/covers.rt:89:5
 loop-again : tie.Need-loop-again Inv-loop μ-loop
 loop-again c =
     let o = c .before .before .before .before .before .before .before .before in
@@ -90,7 +76,6 @@ loop-again c =
       below-more (λ k. allBelow k (λ j. non (clashAt (p .words .now) (p .whole .now) (p .scopes .now) (p .subjects .now) k j)) ≡ true) (o .loop .i) (o .loop .inv .2) (sym (c .before .before .before .before .before .before .settled .ensures) ∙ not-false _ (c .before .before .before .before .before .if1 .left)),
     )
 
--- src/covers.rt:82:1
 returns-2 : tie.Need-returns-2 Inv-loop μ-loop
 returns-2 c =
     let o = c .before in

@@ -5,11 +5,9 @@ use Rattle.rules.proofs.covers.grown.Tie as tie
 use Rattle.rules.proofs.covers.grown.Reads as reads
 use Rattle.rules.proofs.covers.grown.Lts as lts
 
--- src/covers.rt:33:9
 returns : tie.Need-returns
 returns c = search needs
 
--- src/covers.rt:29:1
 returns-2 : tie.Need-returns-2
 returns-2 c = grown-law _ (c .before .before .before .before .before .before .before .before .before .before .before .args .all) (c .before .before .before .before .before .before .before .before .before .before .before .args .x) (c .before .before .before .before .before .before .before .before .before .before .if1 .left)
 

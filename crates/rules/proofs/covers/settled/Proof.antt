@@ -11,57 +11,45 @@ use Rattle.coverage.proofs.LockCoverage.overlaps.Reads as overlaps-reads
 use Rattle.rules.proofs.covers.clear.Reads as clear-reads
 use Rattle.rules.proofs.covers.cover_at.Reads as cover-at-reads
 
--- src/covers.rt:70:8
 mul-if1 : tie.Need-mul-if1
 mul-if1 c = search needs
 
--- src/covers.rt:70:8
 shared-slice-read-if1 : tie.Need-shared-slice-read-if1
 shared-slice-read-if1 c = search needs
 
--- src/covers.rt:71:9
 returns : tie.Need-returns
 returns c =
     let p = c .before .before .before .before .before .before .args in
     sym (lone-vehicle (p .words .now) (p .whole .now) (p .scopes .now) (p .subjects .now) (p .i) (c .if1 .taken))
 
--- src/covers.rt:73:16
 mul-if2 : tie.Need-mul-if2
 mul-if2 c = search needs
 
--- src/covers.rt:73:16
 shared-slice-read-if2 : tie.Need-shared-slice-read-if2
 shared-slice-read-if2 c = search needs
 
--- src/covers.rt:73:31
 shared-slice-read-if2-2 : tie.Need-shared-slice-read-if2-2
 shared-slice-read-if2-2 c = search needs
 
--- src/covers.rt:74:9
 returns-2 : tie.Need-returns-2
 returns-2 c =
     let p = c .before .before .before .before .before .before .before .before .before .args in
     sym (all-friends (p .words .now) (p .whole .now) (p .scopes .now) (p .subjects .now) (p .i) (p .same) (p .all) (c .before .before .before .before .before .before .before .before .before .pre .4) (c .if2 .taken))
 
--- src/covers.rt:76:22
 cover-at-requires : tie.Need-cover-at-requires
 cover-at-requires c κs = search needs
 
--- src/covers.rt:76:9
 overlaps-requires : tie.Need-overlaps-requires
 overlaps-requires c κs = search needs
 
--- src/covers.rt:77:9
 returns-3 : tie.Need-returns-3
 returns-3 c =
     let p = c .before .before .before .before .before .before .before .before .before .before .before .before .args in
     sym (none-met (p .words .now) (p .whole .now) (p .scopes .now) (p .subjects .now) (p .i) (p .same) (p .all) (c .before .before .before .before .before .before .before .before .before .before .before .before .pre .4) _ _ (c .before .overlaps .ensures) (c .before .before .cover-at .ensures) (not-true _ (c .if3 .taken)))
 
--- src/covers.rt:79:5
 clear-requires : tie.Need-clear-requires
 clear-requires c κs = search needs
 
--- src/covers.rt:66:1
 returns-4 : tie.Need-returns-4
 returns-4 c = search needs
 

@@ -9,7 +9,7 @@ use lib.ListN.{length, getD}
 use Rattle.lists.specs.Tests.{_and_, _imp_, non}
 use Rattle.lists.specs.Below.{allBelow}
 use Rattle.lists.proofs.Below.{all-of, all-no}
-use Rattle.rules.specs.Places.{keyAt, has}
+use Rattle.rules.specs.Code.{keyAt, has}
 use Rattle.rules.proofs.Scans.{on, off}
 use Rattle.rules.proofs.Search.{has-id}
 use mathlib.Core.List.{List}
@@ -29,45 +29,36 @@ Inv-loop list parents child n i₀ i = (i ≤ n) × ((k : ℕ) → k < i → tes
 abbrev μ-loop : tie.MeasureT-loop
 μ-loop list parents child n i₀ i = n - i
 
--- src/parents.rt:41:5
 loop-holds : tie.Need-loop-holds Inv-loop μ-loop
 loop-holds c = (omega arith, λ j h. absurd (omega arith))
 
--- src/parents.rt:42:13
 id-at-requires : tie.Need-id-at-requires Inv-loop μ-loop
 id-at-requires c κs = omega arith
 
--- src/parents.rt:43:17
 shared-slice-read-c : tie.Need-shared-slice-read-c Inv-loop μ-loop
 shared-slice-read-c c = omega arith
 
--- src/parents.rt:44:18
 place-requires : tie.Need-place-requires Inv-loop μ-loop
 place-requires c κs = search needs
 
--- src/parents.rt:45:13
 returns : tie.Need-returns Inv-loop μ-loop
 returns c =
     let o = c .before .before .before .before .before in
     let p = o .before .before .before .before .args in
     sym (all-no (p .n) (test (p .list .now) (p .parents .now) (p .child .now) (p .n)) (o .loop .i) (c .before .before .before .before .loop-test .taken) (off _ _ _ (has-id (keyAt (p .list .now)) (p .n) _ _ _ (c .before .place .ensures) (c .before .before .before .id-at .ensures)) (c .if1 .taken)))
 
--- src/parents.rt:47:9
 add-i : tie.Need-add-i Inv-loop μ-loop
 add-i c = omega arith
 
--- src/parents.rt:41:5
 loop-less : tie.Need-loop-less Inv-loop μ-loop
 loop-less c = omega arith
 
--- src/parents.rt:41:5
 loop-again : tie.Need-loop-again Inv-loop μ-loop
 loop-again c =
     let o = c .before .before .before .before .before in
     let p = o .before .before .before .before .args in
     (omega arith, below-more (λ k. test (p .list .now) (p .parents .now) (p .child .now) (p .n) k ≡ true) (o .loop .i) (o .loop .inv .1) (on _ _ _ (has-id (keyAt (p .list .now)) (p .n) _ _ _ (c .before .place .ensures) (c .before .before .before .id-at .ensures)) (c .if1 .left)))
 
--- src/parents.rt:36:1
 returns-2 : tie.Need-returns-2 Inv-loop μ-loop
 returns-2 c =
     let o = c .before in

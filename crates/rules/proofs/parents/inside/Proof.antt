@@ -11,7 +11,7 @@ use Rattle.lists.specs.Below.{allBelow}
 use Rattle.lists.proofs.Below.{all-of, all-no}
 use Rattle.coverage.specs.declared.LockCoverage.{LockCoverage}
 use Rattle.coverage.specs.Coverage.{within}
-use Rattle.rules.specs.Places.{coverAt}
+use Rattle.rules.specs.Code.{coverAt}
 use Rattle.rules.proofs.Scans.{on, off}
 use mathlib.Core.List.{List}
 use Rattle.rules.proofs.parents.inside.Statement.{statement}
@@ -30,45 +30,36 @@ Inv-loop words whole child n cover i₀ i = (i ≤ n) × ((k : ℕ) → k < i �
 abbrev μ-loop : tie.MeasureT-loop
 μ-loop words whole child n cover i₀ i = n - i
 
--- src/parents.rt:75:5
 loop-holds : tie.Need-loop-holds Inv-loop μ-loop
 loop-holds c = (omega arith, λ j h. absurd (omega arith))
 
--- src/parents.rt:76:13
 cover-at-requires : tie.Need-cover-at-requires Inv-loop μ-loop
 cover-at-requires c κs = (omega arith, omega arith)
 
--- src/parents.rt:77:17
 shared-slice-read-c : tie.Need-shared-slice-read-c Inv-loop μ-loop
 shared-slice-read-c c = omega arith
 
--- src/parents.rt:78:17
 contains-requires : tie.Need-contains-requires Inv-loop μ-loop
 contains-requires c κs = tt
 
--- src/parents.rt:79:13
 returns : tie.Need-returns Inv-loop μ-loop
 returns c =
     let o = c .before .before .before .before .before in
     let p = o .before .before .before .before .args in
     sym (all-no (p .n) (test (p .words .now) (p .whole .now) (p .child .now) (p .cover)) (o .loop .i) (c .before .before .before .before .loop-test .taken) (off _ _ _ (c .before .contains .ensures ∙ ap (λ (x : LockCoverage). within x (p .cover)) (c .before .before .before .cover-at .ensures)) (c .if1 .taken)))
 
--- src/parents.rt:81:9
 add-i : tie.Need-add-i Inv-loop μ-loop
 add-i c = omega arith
 
--- src/parents.rt:75:5
 loop-less : tie.Need-loop-less Inv-loop μ-loop
 loop-less c = omega arith
 
--- src/parents.rt:75:5
 loop-again : tie.Need-loop-again Inv-loop μ-loop
 loop-again c =
     let o = c .before .before .before .before .before in
     let p = o .before .before .before .before .args in
     (omega arith, below-more (λ k. test (p .words .now) (p .whole .now) (p .child .now) (p .cover) k ≡ true) (o .loop .i) (o .loop .inv .1) (on _ _ _ (c .before .contains .ensures ∙ ap (λ (x : LockCoverage). within x (p .cover)) (c .before .before .before .cover-at .ensures)) (c .if1 .left)))
 
--- src/parents.rt:70:1
 returns-2 : tie.Need-returns-2 Inv-loop μ-loop
 returns-2 c =
     let o = c .before in

@@ -25,45 +25,36 @@ Inv-loop subjects child n subject i₀ i = (i ≤ n) × ((k : ℕ) → k < i →
 abbrev μ-loop : tie.MeasureT-loop
 μ-loop subjects child n subject i₀ i = n - i
 
--- src/parents.rt:58:5
 loop-holds : tie.Need-loop-holds Inv-loop μ-loop
 loop-holds c = (omega arith, λ j h. absurd (omega arith))
 
--- src/parents.rt:59:17
 mul-u : tie.Need-mul-u Inv-loop μ-loop
 mul-u c = omega arith
 
--- src/parents.rt:59:17
 shared-slice-read-u : tie.Need-shared-slice-read-u Inv-loop μ-loop
 shared-slice-read-u c = omega arith
 
--- src/parents.rt:60:17
 shared-slice-read-c : tie.Need-shared-slice-read-c Inv-loop μ-loop
 shared-slice-read-c c = omega arith
 
--- src/parents.rt:62:13
 returns : tie.Need-returns Inv-loop μ-loop
 returns c =
     let o = c .before .before .before .before in
     let p = o .before .args in
     sym (all-no (p .n) (test (p .subjects .now) (p .child .now) (p .subject)) (o .loop .i) (c .before .before .before .loop-test .taken) (off _ _ _ refl (c .if1 .taken)))
 
--- src/parents.rt:64:9
 add-i : tie.Need-add-i Inv-loop μ-loop
 add-i c = omega arith
 
--- src/parents.rt:58:5
 loop-less : tie.Need-loop-less Inv-loop μ-loop
 loop-less c = omega arith
 
--- src/parents.rt:58:5
 loop-again : tie.Need-loop-again Inv-loop μ-loop
 loop-again c =
     let o = c .before .before .before .before in
     let p = o .before .args in
     (omega arith, below-more (λ k. test (p .subjects .now) (p .child .now) (p .subject) k ≡ true) (o .loop .i) (o .loop .inv .1) (on _ _ _ refl (c .if1 .left)))
 
--- src/parents.rt:53:1
 returns-2 : tie.Need-returns-2 Inv-loop μ-loop
 returns-2 c =
     let o = c .before in

@@ -25,45 +25,36 @@ Inv-loop scopes child n i₀ i = (i ≤ n) × ((k : ℕ) → k < i → test scop
 abbrev μ-loop : tie.MeasureT-loop
 μ-loop scopes child n i₀ i = n - i
 
--- src/parents.rt:92:5
 loop-holds : tie.Need-loop-holds Inv-loop μ-loop
 loop-holds c = (omega arith, λ j h. absurd (omega arith))
 
--- src/parents.rt:93:17
 mul-k : tie.Need-mul-k Inv-loop μ-loop
 mul-k c = omega arith
 
--- src/parents.rt:93:17
 shared-slice-read-k : tie.Need-shared-slice-read-k Inv-loop μ-loop
 shared-slice-read-k c = omega arith
 
--- src/parents.rt:94:17
 shared-slice-read-c : tie.Need-shared-slice-read-c Inv-loop μ-loop
 shared-slice-read-c c = omega arith
 
--- src/parents.rt:96:13
 returns : tie.Need-returns Inv-loop μ-loop
 returns c =
     let o = c .before .before .before .before in
     let p = o .before .args in
     sym (all-no (p .n) (test (p .scopes .now) (p .child .now)) (o .loop .i) (c .before .before .before .loop-test .taken) (both _ _ (c .if1 .taken)))
 
--- src/parents.rt:98:9
 add-i : tie.Need-add-i Inv-loop μ-loop
 add-i c = omega arith
 
--- src/parents.rt:92:5
 loop-less : tie.Need-loop-less Inv-loop μ-loop
 loop-less c = omega arith
 
--- src/parents.rt:92:5
 loop-again : tie.Need-loop-again Inv-loop μ-loop
 loop-again c =
     let o = c .before .before .before .before in
     let p = o .before .args in
     (omega arith, below-more (λ k. test (p .scopes .now) (p .child .now) k ≡ true) (o .loop .i) (o .loop .inv .1) (not-both _ _ (c .if1 .left)))
 
--- src/parents.rt:87:1
 returns-2 : tie.Need-returns-2 Inv-loop μ-loop
 returns-2 c =
     let o = c .before in

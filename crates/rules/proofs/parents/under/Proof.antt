@@ -11,7 +11,7 @@ use Rattle.lists.specs.Below.{allBelow}
 use Rattle.lists.proofs.Below.{all-of, all-no}
 use Rattle.ids.specs.declared.LockId.{LockId}
 use Rattle.ids.specs.Order.{sameId}
-use Rattle.rules.specs.Places.{idAt}
+use Rattle.rules.specs.Code.{idAt}
 use Rattle.rules.proofs.Scans.{on, off, some-same}
 use mathlib.Core.List.{List}
 use Rattle.rules.proofs.parents.under.Statement.{statement}
@@ -30,45 +30,36 @@ Inv-loop parents child n some id i₀ i = (i ≤ n) × ((k : ℕ) → k < i → 
 abbrev μ-loop : tie.MeasureT-loop
 μ-loop parents child n some id i₀ i = n - i
 
--- src/parents.rt:24:5
 loop-holds : tie.Need-loop-holds Inv-loop μ-loop
 loop-holds c = (omega arith, λ j h. absurd (omega arith))
 
--- src/parents.rt:25:13
 id-at-requires : tie.Need-id-at-requires Inv-loop μ-loop
 id-at-requires c κs = omega arith
 
--- src/parents.rt:26:17
 shared-slice-read-c : tie.Need-shared-slice-read-c Inv-loop μ-loop
 shared-slice-read-c c = omega arith
 
--- src/parents.rt:27:25
 same-requires : tie.Need-same-requires Inv-loop μ-loop
 same-requires c κs = tt
 
--- src/parents.rt:28:13
 returns : tie.Need-returns Inv-loop μ-loop
 returns c =
     let o = c .before .before .before .before .before in
     let p = o .before .before .before .args in
     sym (all-no (p .n) (test (p .parents .now) (p .child .now) (p .some) (p .id)) (o .loop .i) (c .before .before .before .before .loop-test .taken) (off _ _ _ (some-same (p .some) _ _ _ _ (c .before .same .ensures) (c .before .before .before .id-at .ensures)) (c .if1 .taken)))
 
--- src/parents.rt:30:9
 add-i : tie.Need-add-i Inv-loop μ-loop
 add-i c = omega arith
 
--- src/parents.rt:24:5
 loop-less : tie.Need-loop-less Inv-loop μ-loop
 loop-less c = omega arith
 
--- src/parents.rt:24:5
 loop-again : tie.Need-loop-again Inv-loop μ-loop
 loop-again c =
     let o = c .before .before .before .before .before in
     let p = o .before .before .before .args in
     (omega arith, below-more (λ k. test (p .parents .now) (p .child .now) (p .some) (p .id) k ≡ true) (o .loop .i) (o .loop .inv .1) (on _ _ _ (some-same (p .some) _ _ _ _ (c .before .same .ensures) (c .before .before .before .id-at .ensures)) (c .if1 .left)))
 
--- src/parents.rt:19:1
 returns-2 : tie.Need-returns-2 Inv-loop μ-loop
 returns-2 c =
     let o = c .before in

@@ -6,7 +6,7 @@ use native.Mathlib.Omega.{arith}
 use borrow.Author.Count.{below-more}
 use Rattle.lists.specs.Tests.{non}
 use Rattle.lists.proofs.Below.{all-of, all-no}
-use Rattle.rules.specs.Places.{idAt, keyAt, has}
+use Rattle.rules.specs.Code.{idAt, keyAt, has}
 use Rattle.rules.proofs.Search.{had, had-not}
 use Rattle.rules.proofs.places.apart.Statement.{statement}
 use Rattle.rules.proofs.places.apart.Tie as tie
@@ -21,19 +21,15 @@ Inv-loop slots list m other n i₀ i = (i ≤ n) × ((k : ℕ) → k < i → non
 abbrev μ-loop : tie.MeasureT-loop
 μ-loop slots list m other n i₀ i = n - i
 
--- src/places.rt:112:5
 loop-holds : tie.Need-loop-holds Inv-loop μ-loop
 loop-holds c = (omega arith, λ j h. absurd (omega arith))
 
--- src/places.rt:113:13
 id-at-requires : tie.Need-id-at-requires Inv-loop μ-loop
 id-at-requires c κs = omega arith
 
--- src/places.rt:114:12
 found-requires : tie.Need-found-requires Inv-loop μ-loop
 found-requires c κs = search needs
 
--- src/places.rt:115:13
 returns : tie.Need-returns Inv-loop μ-loop
 returns c =
     let o = c .before .before .before .before in
@@ -41,15 +37,12 @@ returns c =
     sym (all-no (p .n) (λ i. non (has (keyAt (p .list .now)) (p .m) (keyAt (p .other .now) i))) (o .loop .i) (c .before .before .before .loop-test .taken)
     (had (keyAt (p .list .now)) (p .m) _ _ _ (c .before .found .ensures) (c .before .before .id-at .ensures) (c .if1 .taken)))
 
--- src/places.rt:117:9
 add-i : tie.Need-add-i Inv-loop μ-loop
 add-i c = omega arith
 
--- src/places.rt:112:5
 loop-less : tie.Need-loop-less Inv-loop μ-loop
 loop-less c = omega arith
 
--- src/places.rt:112:5
 loop-again : tie.Need-loop-again Inv-loop μ-loop
 loop-again c =
     let o = c .before .before .before .before in
@@ -59,7 +52,6 @@ loop-again c =
           (had-not (keyAt (p .list .now)) (p .m) _ _ _ (c .before .found .ensures) (c .before .before .id-at .ensures) (c .if1 .left)),
     )
 
--- src/places.rt:107:1
 returns-2 : tie.Need-returns-2 Inv-loop μ-loop
 returns-2 c =
     let o = c .before in

@@ -3,7 +3,7 @@ use mathlib.Core.Logic.{inl, inr}
 use Prim.Native.Nat.{ℕ, _+_, _-_, _*_, _≤_, _<_}
 use native.Mathlib.Omega.{arith}
 use lib.ListN.{getD}
-use Rattle.rules.specs.Places.{idAt, keyAt, slotOf}
+use Rattle.rules.specs.Code.{idAt, keyAt, slotOf}
 use Rattle.rules.proofs.Search.{slot-lt, slot-free, is-same}
 use borrow.Author.Needs.{needs}
 use Rattle.rules.proofs.places.found.Statement.{statement}
@@ -16,19 +16,15 @@ use Rattle.rules.proofs.places.place.Reads as place-reads
 use Rattle.rules.proofs.places.slot.Reads as slot-reads
 use Rattle.rules.proofs.places.wide.Reads as wide-reads
 
--- src/places.rt:95:24
 slot-requires : tie.Need-slot-requires
 slot-requires c κs = search needs
 
--- src/places.rt:95:18
 shared-slice-read-wide : tie.Need-shared-slice-read-wide
 shared-slice-read-wide c = omega (arith, slot-lt (c .before .before .before .before .args .id), c .before .slot .ensures, c .before .before .before .before .pre .2 .long)
 
--- src/places.rt:95:9
 wide-requires : tie.Need-wide-requires
 wide-requires c κs = search needs
 
--- src/places.rt:97:9
 returns : tie.Need-returns
 returns c =
     let st = c .before .before .before .before .before .before in
@@ -39,27 +35,21 @@ returns c =
           (ap (λ (k : ℕ). getD (p .slots .now) k 0) (sym (c .before .before .before .slot .ensures)) ∙ sym (c .before .wide .ensures) ∙ c .if1 .taken),
     )
 
--- src/places.rt:99:13
 sub-p : tie.Need-sub-p
 sub-p c = search needs
 
--- src/places.rt:100:18
 id-at-requires : tie.Need-id-at-requires
 id-at-requires c κs = omega (arith, c .before .before .before .before .before .before .pre .2 .small (c .before .before .before .slot .result), c .before .wide .ensures)
 
--- src/places.rt:100:8
 same-requires : tie.Need-same-requires
 same-requires c κs = search needs
 
--- src/places.rt:101:9
 returns-2 : tie.Need-returns-2
 returns-2 c = inl (omega (arith, c .before .before .before .before .before .before .before .before .before .pre .2 .small (c .before .before .before .before .before .before .slot .result), c .before .before .before .before .wide .ensures), is-same _ _ _ _ _ (c .before .before .id-at .ensures) refl (c .before .same .ensures) (c .if2 .taken))
 
--- src/places.rt:103:5
 place-requires : tie.Need-place-requires
 place-requires c κs = search needs
 
--- src/places.rt:91:1
 returns-3 : tie.Need-returns-3
 returns-3 c = search needs
 

@@ -3,7 +3,7 @@ use mathlib.Core.Logic.{inl, inr}
 use Prim.Native.Nat.{ℕ, _+_, _-_, _*_, _/_, _≤_, _<_}
 use native.Mathlib.Omega.{arith}
 use Rattle.ids.specs.Order.{key}
-use Rattle.rules.specs.Places.{idAt, keyAt}
+use Rattle.rules.specs.Code.{idAt, keyAt}
 use Rattle.rules.proofs.Search.{is-less, not-less, is-same, not-same, low, high, missed}
 use Rattle.rules.proofs.places.place.Statement.{statement}
 use Rattle.rules.proofs.places.place.Tie as tie
@@ -19,35 +19,27 @@ Inv-loop list n id a₀ e₀ a e = (a ≤ e) × (e ≤ n) × ((i : ℕ) → i < 
 abbrev μ-loop : tie.MeasureT-loop
 μ-loop list n id a₀ e₀ a e = e - a
 
--- src/places.rt:46:5
 loop-holds : tie.Need-loop-holds Inv-loop μ-loop
 loop-holds c = (omega arith, omega arith, (λ i h. absurd (omega arith)), λ i h g. absurd (omega arith))
 
--- src/places.rt:47:22
 sub-m : tie.Need-sub-m Inv-loop μ-loop
 sub-m c = omega arith
 
--- src/places.rt:47:17
 add-m : tie.Need-add-m Inv-loop μ-loop
 add-m c = omega arith
 
--- src/places.rt:48:22
 id-at-requires : tie.Need-id-at-requires Inv-loop μ-loop
 id-at-requires c κs = omega arith
 
--- src/places.rt:48:12
 less-requires : tie.Need-less-requires Inv-loop μ-loop
 less-requires c κs = tt
 
--- src/places.rt:49:17
 add-a : tie.Need-add-a Inv-loop μ-loop
 add-a c = omega arith
 
--- src/places.rt:46:5
 loop-less : tie.Need-loop-less Inv-loop μ-loop
 loop-less c = omega arith
 
--- src/places.rt:46:5
 loop-again : tie.Need-loop-again Inv-loop μ-loop
 loop-again c =
     let o = c .before .before .before .before in
@@ -60,11 +52,9 @@ loop-again c =
       o .loop .inv .3,
     )
 
--- src/places.rt:46:5
 loop-less-2 : tie.Need-loop-less-2 Inv-loop μ-loop
 loop-less-2 c = omega arith
 
--- src/places.rt:46:5
 loop-again-2 : tie.Need-loop-again-2 Inv-loop μ-loop
 loop-again-2 c =
     let o = c .before .before .before .before in
@@ -77,19 +67,15 @@ loop-again-2 c =
           (not-less _ _ _ _ _ (c .before .before .id-at .ensures) refl (c .before .less .ensures) (c .if1 .left)),
     )
 
--- src/places.rt:55:22
 id-at-requires-2 : tie.Need-id-at-requires-2 Inv-loop μ-loop
 id-at-requires-2 c κs = omega arith
 
--- src/places.rt:55:12
 same-requires : tie.Need-same-requires Inv-loop μ-loop
 same-requires c κs = tt
 
--- src/places.rt:56:13
 returns : tie.Need-returns Inv-loop μ-loop
 returns c = inl (c .before .before .before .if2 .taken, is-same _ _ _ _ _ (c .before .before .id-at2 .ensures) refl (c .before .same .ensures) (c .if3 .taken))
 
--- src/places.rt:40:1
 returns-2 : tie.Need-returns-2 Inv-loop μ-loop
 returns-2 c =
     let o = c .before .before .before .before .before in
@@ -100,7 +86,6 @@ returns-2 c =
           (not-same _ _ _ _ _ (c .before .before .id-at2 .ensures) refl (c .before .same .ensures) (c .if3 .left)),
     )
 
--- src/places.rt:40:1
 returns-3 : tie.Need-returns-3 Inv-loop μ-loop
 returns-3 c = inr (refl, λ i h e. omega (arith, c .before .before .loop .inv .2 i (omega arith)))
 

@@ -4,7 +4,7 @@ use Prim.Native.Nat.{ℕ, _+_, _-_, _*_, _≤_, _<_}
 use native.Mathlib.Omega.{arith}
 use borrow.Author.Tests.{not-true, not-false}
 use Rattle.lists.proofs.Places.{rise-more}
-use Rattle.rules.specs.Places.{idAt, keyAt}
+use Rattle.rules.specs.Code.{idAt, keyAt}
 use Rattle.rules.proofs.Search.{is-less, not-less}
 use Rattle.rules.proofs.places.rising.Statement.{statement}
 use Rattle.rules.proofs.places.rising.Tie as tie
@@ -19,27 +19,21 @@ Inv-loop list n i₀ i = (1 ≤ i) × ((j : ℕ) → j + 1 < i → keyAt list j 
 abbrev μ-loop : tie.MeasureT-loop
 μ-loop list n i₀ i = n - i
 
--- src/places.rt:28:5
 loop-holds : tie.Need-loop-holds Inv-loop μ-loop
 loop-holds c = (omega arith, λ j h. absurd (omega arith))
 
--- src/places.rt:29:29
 sub-id-at : tie.Need-sub-id-at Inv-loop μ-loop
 sub-id-at c = omega arith
 
--- src/places.rt:29:13
 id-at-requires : tie.Need-id-at-requires Inv-loop μ-loop
 id-at-requires c κs = omega arith
 
--- src/places.rt:30:13
 id-at-requires-2 : tie.Need-id-at-requires-2 Inv-loop μ-loop
 id-at-requires-2 c κs = omega arith
 
--- src/places.rt:31:13
 less-requires : tie.Need-less-requires Inv-loop μ-loop
 less-requires c κs = tt
 
--- src/places.rt:32:13
 returns : tie.Need-returns Inv-loop μ-loop
 returns c =
     let o = c .before .before .before .before .before in
@@ -53,15 +47,12 @@ returns c =
       ),
     )
 
--- src/places.rt:34:9
 add-i : tie.Need-add-i Inv-loop μ-loop
 add-i c = omega arith
 
--- src/places.rt:28:5
 loop-less : tie.Need-loop-less Inv-loop μ-loop
 loop-less c = omega arith
 
--- src/places.rt:28:5
 loop-again : tie.Need-loop-again Inv-loop μ-loop
 loop-again c =
     let o = c .before .before .before .before .before in (
@@ -70,7 +61,6 @@ loop-again c =
           (is-less _ _ _ _ _ (c .before .before .before .id-at .ensures) (c .before .before .id-at2 .ensures) (c .before .less .ensures) (not-false _ (c .if1 .left))),
     )
 
--- src/places.rt:23:1
 returns-2 : tie.Need-returns-2 Inv-loop μ-loop
 returns-2 c = inl (refl, λ j h. c .before .loop .inv .1 j (omega arith))
 

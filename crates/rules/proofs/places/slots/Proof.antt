@@ -1,7 +1,7 @@
 use mathlib.Core.Path.{_≡_, refl, subst}
 use Prim.Native.Nat.{ℕ, _+_, _-_, _*_, _≤_, _<_}
 use native.Mathlib.Omega.{arith}
-use Rattle.rules.specs.Places.{idAt, Slotted}
+use Rattle.rules.specs.Code.{idAt, Slotted}
 use Rattle.rules.proofs.Search.{slot-lt, slot-none, slot-next}
 use Rattle.rules.proofs.places.slots.Statement.{statement}
 use Rattle.rules.proofs.places.slots.Tie as tie
@@ -16,41 +16,32 @@ Inv-loop list n out₀ i₀ out i = (i ≤ n) × Slotted list i out
 abbrev μ-loop : tie.MeasureT-loop
 μ-loop list n out₀ i₀ out i = n - i
 
--- src/places.rt:76:5
 loop-holds : tie.Need-loop-holds Inv-loop μ-loop
 loop-holds c = (omega arith, slot-none _)
 
--- src/places.rt:77:22
 id-at-requires : tie.Need-id-at-requires Inv-loop μ-loop
 id-at-requires c κs = omega arith
 
--- src/places.rt:77:13
 slot-requires : tie.Need-slot-requires Inv-loop μ-loop
 slot-requires c κs = tt
 
--- src/places.rt:78:9
 add-i : tie.Need-add-i Inv-loop μ-loop
 add-i c = omega arith
 
--- src/places.rt:79:18
 cast-out : tie.Need-cast-out Inv-loop μ-loop
 cast-out c = omega arith
 
--- src/places.rt:79:9
 array-write-out : tie.Need-array-write-out Inv-loop μ-loop
 array-write-out c = omega (arith, slot-lt (c .before .id-at .result), c .slot .ensures, c .before .before .before .loop .inv .1 .long)
 
--- src/places.rt:76:5
 loop-less : tie.Need-loop-less Inv-loop μ-loop
 loop-less c = omega arith
 
--- src/places.rt:76:5
 loop-again : tie.Need-loop-again Inv-loop μ-loop
 loop-again c =
     let o = c .before .before .before in
     (omega arith, slot-next (o .before .before .args .list .now) (o .loop .i) (o .loop .out) _ _ (c .slot .ensures) (c .before .id-at .ensures) (o .loop .inv .1))
 
--- src/places.rt:70:1
 returns : tie.Need-returns Inv-loop μ-loop
 returns c =
     let o = c .before in

@@ -20,23 +20,18 @@ Inv-loop scopes n seen₀ i₀ seen i = (i ≤ n) × Marked (λ j. getD scopes j
 abbrev μ-loop : tie.MeasureT-loop
 μ-loop scopes n seen₀ i₀ seen i = n - i
 
--- src/scopes.rt:17:5
 loop-holds : tie.Need-loop-holds Inv-loop μ-loop
 loop-holds c = (omega arith, mark-none (λ j. getD (c .args .scopes .now) j 0), λ j h. absurd (omega arith))
 
--- src/scopes.rt:18:17
 mul-k : tie.Need-mul-k Inv-loop μ-loop
 mul-k c = omega arith
 
--- src/scopes.rt:18:17
 shared-slice-read-k : tie.Need-shared-slice-read-k Inv-loop μ-loop
 shared-slice-read-k c = omega arith
 
--- src/scopes.rt:19:12
 array-read-if1 : tie.Need-array-read-if1 Inv-loop μ-loop
 array-read-if1 c = omega (arith, c .before .before .before .pre .1 (c .before .before .loop .i) (c .before .loop-test .taken), c .before .before .loop .inv .1 .long)
 
--- src/scopes.rt:20:13
 returns : tie.Need-returns Inv-loop μ-loop
 returns c =
     let o = c .before .before .before in
@@ -44,19 +39,15 @@ returns c =
     let f : ℕ → ℕ = λ j. getD (p .scopes .now) j 0 in
     sym (all-no (p .n) (λ i. allBelow i (λ j. non (eqb (f i) (f j)))) (o .loop .i) (c .before .before .loop-test .taken) (seen-yes f (o .loop .i) (o .loop .seen) (o .loop .inv .1) (c .if1 .taken)))
 
--- src/scopes.rt:22:9
 array-write-seen : tie.Need-array-write-seen Inv-loop μ-loop
 array-write-seen c = omega (arith, c .before .before .before .before .pre .1 (c .before .before .before .loop .i) (c .before .before .loop-test .taken), c .before .before .before .loop .inv .1 .long)
 
--- src/scopes.rt:23:9
 add-i : tie.Need-add-i Inv-loop μ-loop
 add-i c = omega arith
 
--- src/scopes.rt:17:5
 loop-less : tie.Need-loop-less Inv-loop μ-loop
 loop-less c = omega arith
 
--- src/scopes.rt:17:5
 loop-again : tie.Need-loop-again Inv-loop μ-loop
 loop-again c =
     let o = c .before .before .before in
@@ -67,7 +58,6 @@ loop-again c =
       below-more (λ k. allBelow k (λ j. non (eqb (f k) (f j))) ≡ true) (o .loop .i) (o .loop .inv .2) (seen-no f (o .loop .i) (o .loop .seen) (o .loop .inv .1) (c .if1 .left)),
     )
 
--- src/scopes.rt:11:1
 returns-2 : tie.Need-returns-2 Inv-loop μ-loop
 returns-2 c =
     let o = c .before in

@@ -15,37 +15,29 @@ Inv-loop scopes n i₀ i = (i ≤ n) × ((k : ℕ) → k < i → getD scopes k 0
 abbrev μ-loop : tie.MeasureT-loop
 μ-loop scopes n i₀ i = n - i
 
--- src/scopes.rt:34:5
 loop-holds : tie.Need-loop-holds Inv-loop μ-loop
 loop-holds c = (omega arith, λ j h e. absurd (omega arith))
 
--- src/scopes.rt:35:12
 mul-if1 : tie.Need-mul-if1 Inv-loop μ-loop
 mul-if1 c = omega arith
 
--- src/scopes.rt:35:12
 shared-slice-read-if1 : tie.Need-shared-slice-read-if1 Inv-loop μ-loop
 shared-slice-read-if1 c = omega arith
 
--- src/scopes.rt:36:13
 returns : tie.Need-returns Inv-loop μ-loop
 returns c = inl (c .before .before .loop-test .taken, c .if1 .taken)
 
--- src/scopes.rt:38:9
 add-i : tie.Need-add-i Inv-loop μ-loop
 add-i c = omega arith
 
--- src/scopes.rt:34:5
 loop-less : tie.Need-loop-less Inv-loop μ-loop
 loop-less c = omega arith
 
--- src/scopes.rt:34:5
 loop-again : tie.Need-loop-again Inv-loop μ-loop
 loop-again c =
     let o = c .before .before .before in
     (omega arith, below-more (λ k. getD (o .before .args .scopes .now) k 0 ≡ 0 → ⊥) (o .loop .i) (o .loop .inv .1) (c .if1 .left))
 
--- src/scopes.rt:29:1
 returns-2 : tie.Need-returns-2 Inv-loop μ-loop
 returns-2 c = inr (refl, λ k h. c .before .loop .inv .1 k (omega arith))
 

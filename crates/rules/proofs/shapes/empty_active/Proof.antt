@@ -11,15 +11,12 @@ use Rattle.rules.proofs.shapes.empty_active.Lts as lts
 use Rattle.rules.proofs.shapes.zero_id.Reads as zero-id-reads
 use Rattle.rules.proofs.shapes.zero_lock.Reads as zero-lock-reads
 
--- src/lib.rt:216:5
 zero-lock-requires : tie.Need-zero-lock-requires
 zero-lock-requires c κs = search needs
 
--- src/lib.rt:216:55
 zero-id-requires : tie.Need-zero-id-requires
 zero-id-requires c κs = search needs
 
--- src/lib.rt:213:1
 returns : tie.Need-returns
 unfolding isBlankA _and_ non
 returns c = cc

@@ -11,15 +11,12 @@ use Rattle.rules.proofs.shapes.empty_defunct.Lts as lts
 use Rattle.rules.proofs.shapes.zero_id.Reads as zero-id-reads
 use Rattle.rules.proofs.shapes.zero_lock.Reads as zero-lock-reads
 
--- src/lib.rt:222:5
 zero-lock-requires : tie.Need-zero-lock-requires
 zero-lock-requires c κs = search needs
 
--- src/lib.rt:226:11
 zero-id-requires : tie.Need-zero-id-requires
 zero-id-requires c κs = search needs
 
--- src/lib.rt:219:1
 returns : tie.Need-returns
 unfolding isBlankD _and_ non
 returns c = cc

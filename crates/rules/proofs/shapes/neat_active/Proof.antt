@@ -11,15 +11,12 @@ use Rattle.rules.proofs.shapes.neat_active.Lts as lts
 use Rattle.rules.proofs.shapes.neat_lock.Reads as neat-lock-reads
 use Rattle.rules.proofs.shapes.zero_id.Reads as zero-id-reads
 
--- src/lib.rt:240:5
 neat-lock-requires : tie.Need-neat-lock-requires
 neat-lock-requires c κs = search needs
 
--- src/lib.rt:240:36
 zero-id-requires : tie.Need-zero-id-requires
 zero-id-requires c κs = search needs
 
--- src/lib.rt:237:1
 returns : tie.Need-returns
 unfolding neatA _or_ _and_
 returns c = cc

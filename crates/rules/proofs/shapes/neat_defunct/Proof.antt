@@ -10,11 +10,9 @@ use Rattle.rules.proofs.shapes.neat_defunct.Reads as reads
 use Rattle.rules.proofs.shapes.neat_defunct.Lts as lts
 use Rattle.rules.proofs.shapes.neat_lock.Reads as neat-lock-reads
 
--- src/lib.rt:246:5
 neat-lock-requires : tie.Need-neat-lock-requires
 neat-lock-requires c κs = search needs
 
--- src/lib.rt:243:1
 returns : tie.Need-returns
 unfolding neatD
 returns c = c .neat-lock .ensures

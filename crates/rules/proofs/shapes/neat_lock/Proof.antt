@@ -10,11 +10,9 @@ use Rattle.rules.proofs.shapes.neat_lock.Reads as reads
 use Rattle.rules.proofs.shapes.neat_lock.Lts as lts
 use Rattle.rules.proofs.shapes.zero_set.Reads as zero-set-reads
 
--- src/lib.rt:234:16
 zero-set-requires : tie.Need-zero-set-requires
 zero-set-requires c κs = search needs
 
--- src/lib.rt:230:1
 returns : tie.Need-returns
 unfolding neatL
 returns c = simp (codes, imp-code) (cc)

@@ -8,7 +8,6 @@ use Rattle.rules.proofs.shapes.zero_id.Tie as tie
 use Rattle.rules.proofs.shapes.zero_id.Reads as reads
 use Rattle.rules.proofs.shapes.zero_id.Lts as lts
 
--- src/lib.rt:186:1
 returns : tie.Need-returns
 unfolding zeroId _and_
 returns c = refl

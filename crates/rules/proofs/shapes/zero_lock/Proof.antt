@@ -12,19 +12,15 @@ use Rattle.state.proofs.is_vehicle.Reads as is-vehicle-reads
 use Rattle.rules.proofs.shapes.zero_id.Reads as zero-id-reads
 use Rattle.rules.proofs.shapes.zero_set.Reads as zero-set-reads
 
--- src/lib.rt:203:5
 zero-id-requires : tie.Need-zero-id-requires
 zero-id-requires c κs = search needs
 
--- src/lib.rt:204:11
 is-vehicle-requires : tie.Need-is-vehicle-requires
 is-vehicle-requires c κs = search needs
 
--- src/lib.rt:206:11
 zero-set-requires : tie.Need-zero-set-requires
 zero-set-requires c κs = search needs
 
--- src/lib.rt:198:1
 returns : tie.Need-returns
 unfolding zeroLock _and_ non
 returns c = cc

@@ -8,7 +8,6 @@ use Rattle.rules.proofs.shapes.zero_set.Tie as tie
 use Rattle.rules.proofs.shapes.zero_set.Reads as reads
 use Rattle.rules.proofs.shapes.zero_set.Lts as lts
 
--- src/lib.rt:192:1
 returns : tie.Need-returns
 unfolding zeroSet _and_
 returns c = refl

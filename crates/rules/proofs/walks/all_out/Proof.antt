@@ -18,41 +18,33 @@ Inv-loop t n i₀ i = (i ≤ n) × ((k : ℕ) → k < i → leb n (getD t k 0) �
 abbrev μ-loop : tie.MeasureT-loop
 μ-loop t n i₀ i = n - i
 
--- src/walks.rt:48:5
 loop-holds : tie.Need-loop-holds Inv-loop μ-loop
 loop-holds c = (omega arith, λ j h. absurd (omega arith))
 
--- src/walks.rt:49:17
 mul-j : tie.Need-mul-j Inv-loop μ-loop
 mul-j c = omega arith
 
--- src/walks.rt:49:17
 shared-slice-read-j : tie.Need-shared-slice-read-j Inv-loop μ-loop
 shared-slice-read-j c = omega arith
 
--- src/walks.rt:51:13
 returns : tie.Need-returns Inv-loop μ-loop
 returns c =
     let o = c .before .before .before in
     let p = o .before .args in
     sym (all-no (p .n) (λ i. leb (p .n) (getD (p .t .now) i 0)) (o .loop .i) (c .before .before .loop-test .taken) (lt-leb _ _ (c .if1 .taken)))
 
--- src/walks.rt:53:9
 add-i : tie.Need-add-i Inv-loop μ-loop
 add-i c = omega arith
 
--- src/walks.rt:48:5
 loop-less : tie.Need-loop-less Inv-loop μ-loop
 loop-less c = omega arith
 
--- src/walks.rt:48:5
 loop-again : tie.Need-loop-again Inv-loop μ-loop
 loop-again c =
     let o = c .before .before .before in
     let p = o .before .args in
     (omega arith, below-more (λ k. leb (p .n) (getD (p .t .now) k 0) ≡ true) (o .loop .i) (o .loop .inv .1) (le-leb _ _ (c .if1 .left)))
 
--- src/walks.rt:43:1
 returns-2 : tie.Need-returns-2 Inv-loop μ-loop
 returns-2 c =
     let o = c .before in

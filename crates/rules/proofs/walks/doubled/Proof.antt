@@ -7,7 +7,7 @@ use native.Mathlib.Omega.{arith}
 use borrow.Author.Needs.{needs}
 use lib.ListN.{length, getD, length-set}
 use Rattle.lists.proofs.Places.{fill-more}
-use Rattle.rules.specs.Places.{jump}
+use Rattle.rules.specs.Code.{jump}
 use Rattle.rules.proofs.Steps.{jump-in, jump-out}
 use Rattle.rules.proofs.walks.doubled.Statement.{statement}
 use Rattle.rules.proofs.walks.doubled.Tie as tie
@@ -20,43 +20,33 @@ Inv-loop t n out₀ i₀ out i = (i ≤ n) × (length out ≡ 128) × ((j : ℕ)
 abbrev μ-loop : tie.MeasureT-loop
 μ-loop t n out₀ i₀ out i = n - i
 
--- src/lib.rt:46:5
 loop-holds : tie.Need-loop-holds Inv-loop μ-loop
 loop-holds c = (omega arith, refl, λ i h. absurd (omega arith))
 
--- src/lib.rt:47:17
 mul-j : tie.Need-mul-j Inv-loop μ-loop
 mul-j c = omega arith
 
--- src/lib.rt:47:17
 shared-slice-read-j : tie.Need-shared-slice-read-j Inv-loop μ-loop
 shared-slice-read-j c = omega arith
 
--- src/lib.rt:48:28
 mul-k : tie.Need-mul-k Inv-loop μ-loop
 mul-k c = omega arith
 
--- src/lib.rt:48:28
 shared-slice-read-k : tie.Need-shared-slice-read-k Inv-loop μ-loop
 shared-slice-read-k c = omega arith
 
--- src/lib.rt:49:9
 mul-out : tie.Need-mul-out Inv-loop μ-loop
 mul-out c = omega arith
 
--- src/lib.rt:49:9
 array-write-out : tie.Need-array-write-out Inv-loop μ-loop
 array-write-out c = omega arith
 
--- src/lib.rt:50:9
 add-i : tie.Need-add-i Inv-loop μ-loop
 add-i c = omega arith
 
--- src/lib.rt:46:5
 loop-less : tie.Need-loop-less Inv-loop μ-loop
 loop-less c = omega arith
 
--- src/lib.rt:46:5
 loop-again : tie.Need-loop-again Inv-loop μ-loop
 loop-again c =
     let o = c .before .before .before in
@@ -64,7 +54,6 @@ loop-again c =
     let here = jump-in (p .t .now) (p .n) (o .loop .i) (c .before .before .loop-test .taken) in
     (omega arith, length-set (o .loop .out) (o .loop .i) (c .if1 .k) ∙ o .loop .inv .1, fill-more (λ j. jump (p .t .now) (p .n) (jump (p .t .now) (p .n) j)) (o .loop .out) (o .loop .i) (c .if1 .k) 0 (omega arith) (rw here (⊎-elim (λ w. w .2 ∙ sym (jump-in (p .t .now) (p .n) _ (w .0 .taken))) (λ w. w .1 ∙ sym (jump-out (p .t .now) (p .n) _ (w .0 .left))) (c .if1 .came))) (o .loop .inv .2))
 
--- src/lib.rt:40:1
 returns : tie.Need-returns Inv-loop μ-loop
 returns c = λ i h. c .before .loop .inv .2 i (omega arith)
 

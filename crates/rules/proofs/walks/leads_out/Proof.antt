@@ -4,7 +4,7 @@ use Prim.Native.Nat.{ℕ, _+_, _-_, _≤_, _<_}
 use native.Mathlib.Omega.{arith}
 use borrow.Author.Tests.{not-true, not-false}
 use lib.ListN.{length}
-use Rattle.rules.specs.Places.{jump, times, LeadsOut}
+use Rattle.rules.specs.Code.{jump, times, LeadsOut}
 use Rattle.rules.proofs.Steps.{once, twice-far, out-says, says-far, says-out}
 use Rattle.rules.proofs.walks.leads_out.Statement.{statement}
 use Rattle.rules.proofs.walks.leads_out.Tie as tie
@@ -19,48 +19,38 @@ Inv-loop n far₀ reach₀ far reach = (length far ≡ 128) × (1 ≤ reach) × 
 abbrev μ-loop : tie.MeasureT-loop
 μ-loop n far₀ reach₀ far reach = n - reach
 
--- src/walks.rt:65:5
 loop-holds : tie.Need-loop-holds Inv-loop μ-loop
 loop-holds c = (search needs, omega arith, once (c .args .t) (c .args .n))
 
--- src/walks.rt:65:20
 slice-aggregate-all-out : tie.Need-slice-aggregate-all-out Inv-loop μ-loop
 slice-aggregate-all-out c = sym (c .before .loop .inv .0)
 
--- src/walks.rt:65:12
 all-out-requires : tie.Need-all-out-requires Inv-loop μ-loop
 all-out-requires c κs = omega arith
 
--- src/walks.rt:67:13
 returns : tie.Need-returns Inv-loop μ-loop
 returns c =
     let o = c .before .before .before .before in
     let p = o .before .args in
     says-far (p .t) (p .n) (o .loop .reach) _ (sym (not-true _ (c .before .if1 .taken)) ∙ c .before .before .all-out .ensures ∙ out-says (p .t) (o .loop .far) (p .n) (o .loop .reach) (o .loop .inv .2)) (c .if2 .taken)
 
--- src/walks.rt:69:28
 slice-aggregate-doubled : tie.Need-slice-aggregate-doubled Inv-loop μ-loop
 slice-aggregate-doubled c = sym (c .before .before .before .before .before .loop .inv .0)
 
--- src/walks.rt:69:13
 doubled-requires : tie.Need-doubled-requires Inv-loop μ-loop
 doubled-requires c κs = (omega arith, omega arith)
 
--- src/walks.rt:71:17
 add-reach : tie.Need-add-reach Inv-loop μ-loop
 add-reach c = omega arith
 
--- src/walks.rt:65:5
 loop-less : tie.Need-loop-less Inv-loop μ-loop
 loop-less c = omega arith
 
--- src/walks.rt:65:5
 loop-again : tie.Need-loop-again Inv-loop μ-loop
 loop-again c =
     let o = c .before .before .before .before .before .before in
     (search needs, omega arith, twice-far (o .before .args .t) (o .loop .far) (c .doubled .result) (o .before .args .n) (o .loop .reach) (o .loop .inv .2) (c .doubled .ensures))
 
--- src/walks.rt:59:1
 returns-2 : tie.Need-returns-2 Inv-loop μ-loop
 returns-2 c =
     let o = c .before .before .before in

@@ -4,7 +4,7 @@ use Prim.Native.Nat.{ℕ, _+_, _-_, _*_, _≤_, _<_}
 use native.Mathlib.Omega.{arith}
 use lib.ListN.{length, getD, length-set}
 use Rattle.lists.proofs.Places.{fill-more-of}
-use Rattle.rules.specs.Places.{keyAt, Sought}
+use Rattle.rules.specs.Code.{keyAt, Sought}
 use Rattle.rules.proofs.Search.{sought-id}
 use Rattle.rules.proofs.walks.steps.Statement.{statement}
 use Rattle.rules.proofs.walks.steps.Tie as tie
@@ -19,35 +19,27 @@ Inv-loop slots list n targets out₀ i₀ out i = (i ≤ n) × (length out ≡ 1
 abbrev μ-loop : tie.MeasureT-loop
 μ-loop slots list n targets out₀ i₀ out i = n - i
 
--- src/walks.rt:19:5
 loop-holds : tie.Need-loop-holds Inv-loop μ-loop
 loop-holds c = (omega arith, refl, λ j h. absurd (omega arith))
 
--- src/walks.rt:20:47
 id-at-requires : tie.Need-id-at-requires Inv-loop μ-loop
 id-at-requires c κs = omega arith
 
--- src/walks.rt:20:13
 found-requires : tie.Need-found-requires Inv-loop μ-loop
 found-requires c κs = search needs
 
--- src/walks.rt:21:9
 mul-out : tie.Need-mul-out Inv-loop μ-loop
 mul-out c = omega arith
 
--- src/walks.rt:21:9
 array-write-out : tie.Need-array-write-out Inv-loop μ-loop
 array-write-out c = omega arith
 
--- src/walks.rt:22:9
 add-i : tie.Need-add-i Inv-loop μ-loop
 add-i c = omega arith
 
--- src/walks.rt:19:5
 loop-less : tie.Need-loop-less Inv-loop μ-loop
 loop-less c = omega arith
 
--- src/walks.rt:19:5
 loop-again : tie.Need-loop-again Inv-loop μ-loop
 loop-again c =
     let o = c .before .before .before in
@@ -58,7 +50,6 @@ loop-again c =
           (sought-id (keyAt (p .list .now)) (p .n) (c .found .result) _ _ (c .found .ensures) (c .before .id-at .ensures)) (o .loop .inv .2),
     )
 
--- src/walks.rt:13:1
 returns : tie.Need-returns Inv-loop μ-loop
 returns c = λ i h. c .before .loop .inv .2 i (omega arith)
 

@@ -6,15 +6,12 @@ use Rattle.state.proofs.LockState.empty.Lts as lts
 use Rattle.state.proofs.blank_active.Reads as blank-active-reads
 use Rattle.state.proofs.blank_defunct.Reads as blank-defunct-reads
 
--- src/lib.rt:186:13
 blank-active-requires : tie.Need-blank-active-requires
 blank-active-requires c κs = search needs
 
--- src/lib.rt:187:13
 blank-defunct-requires : tie.Need-blank-defunct-requires
 blank-defunct-requires c κs = search needs
 
--- src/lib.rt:183:5
 returns : tie.Need-returns
 returns c = cc
 

@@ -1,0 +1,5 @@
+pub mod Any
+pub mod Keeping
+pub mod Deeds
+pub mod Moving
+pub mod Running

@@ -1,0 +1,3 @@
+-- What the theorems speak of beside the definitions of the other crates.
+pub mod Feeding
+pub mod Deeds
