@@ -5,6 +5,7 @@
 //! differential [OPERATIONS] [SEED] [THREADS]   random states until so many operations were run,
 //!                                              a part of the tiny universe, every byte of a
 //!                                              rich image; fails on an answer seldom seen
+//! differential blocks [OPERATIONS] [SEED] [THREADS]   the random states alone
 //! differential block SEED                      one block of random states again
 //! differential tiny [STEP]                     every STEP-th state of the tiny universe
 //! differential replay PROGRAM [FEEDS] [SEED]   what the program prints, beside the judge
@@ -40,12 +41,13 @@ fn main() -> ExitCode {
     };
     let numbers = match words.first().map(String::as_str) {
         Some("block" | "tiny") => [number(1, 1), Some(0), Some(0)],
+        Some("blocks") => [number(1, 1_000_000), number(2, 1), number(3, 2)],
         Some("replay" | "spare") if words.len() > 1 => [number(2, 300), number(3, 1), Some(0)],
         _ => [number(0, 1_000_000), number(1, 1), number(2, 2)],
     };
     let [Some(first), Some(seed), Some(threads)] = numbers else {
         eprintln!(
-            "differential [OPERATIONS] [SEED] [THREADS] | block SEED | tiny [STEP] | replay or spare PROGRAM [FEEDS] [SEED]"
+            "differential [OPERATIONS] [SEED] [THREADS] | blocks [OPERATIONS] [SEED] [THREADS] | block SEED | tiny [STEP] | replay or spare PROGRAM [FEEDS] [SEED]"
         );
         return ExitCode::from(2);
     };
@@ -59,6 +61,7 @@ fn main() -> ExitCode {
             );
             ExitCode::SUCCESS
         }
+        Some("blocks") => blocks(first, seed, threads.max(1)),
         Some("tiny") => tiny(first.max(1) as usize),
         Some(name @ ("replay" | "spare")) => {
             let compare = if name == "replay" { replay } else { spare };
@@ -256,17 +259,31 @@ fn whole(operations: u64, seed: u64, threads: u64) -> ExitCode {
         start.elapsed().as_secs_f64()
     );
     sum.add(&tally);
-    // Whole blocks: as many as it takes, counted by a first one, so that threads don't matter.
-    let Some(first) = guarded("block", seed, || Run::block(seed)) else {
+    let left = operations.saturating_sub(tally.operations);
+    let Some(random) = random_part(left, seed, threads, start) else {
         return ExitCode::FAILURE;
     };
-    let in_turn = first.operations.max(1);
-    let blocks = operations
-        .saturating_sub(tally.operations)
-        .div_ceil(in_turn)
-        + 1;
+    sum.add(&random);
+    ended(&sum, seed, threads, start);
+    seldom(&sum)
+}
+
+/// The random states alone: what an emulator can do in a time that one waits for.
+fn blocks(operations: u64, seed: u64, threads: u64) -> ExitCode {
+    let start = Instant::now();
+    let Some(sum) = random_part(operations, seed, threads, start) else {
+        return ExitCode::FAILURE;
+    };
+    ended(&sum, seed, threads, start);
+    ExitCode::SUCCESS
+}
+
+/// Whole blocks: as many as it takes, counted by a first one, so that threads don't matter.
+fn random_part(operations: u64, seed: u64, threads: u64, start: Instant) -> Option<Tally> {
+    let first = guarded("block", seed, || Run::block(seed))?;
+    let blocks = operations.div_ceil(first.operations.max(1)) + 1;
     let done = AtomicU64::new(0);
-    let random = spread(threads, blocks, |place| {
+    spread(threads, blocks, |place| {
         let block = seed.wrapping_mul(1_000_000).wrapping_add(place);
         let tally = guarded("block", block, || Run::block(block));
         let count = done.fetch_add(1, Ordering::Relaxed) + 1;
@@ -277,11 +294,10 @@ fn whole(operations: u64, seed: u64, threads: u64) -> ExitCode {
             );
         }
         tally
-    });
-    let Some(random) = random else {
-        return ExitCode::FAILURE;
-    };
-    sum.add(&random);
+    })
+}
+
+fn ended(sum: &Tally, seed: u64, threads: u64, start: Instant) {
     sum.print();
     println!(
         "no difference: {} operations and {} other calls on {} states, seed {seed}, {threads} threads, {:.0} s",
@@ -290,7 +306,6 @@ fn whole(operations: u64, seed: u64, threads: u64) -> ExitCode {
         sum.states,
         start.elapsed().as_secs_f64()
     );
-    seldom(&sum)
 }
 
 fn seldom(sum: &Tally) -> ExitCode {
