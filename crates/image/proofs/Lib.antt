@@ -7,5 +7,4 @@ pub mod There
 pub mod Back
 pub mod Papers
 pub mod Trips
-pub mod Ranged
 pub mod Stores

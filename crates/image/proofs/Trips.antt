@@ -57,7 +57,7 @@ unfolding neatD
 defunct-right d t = defunct-neat d ∙ lock-right (d .lock) t
 
 -- members of the first places are members
-mem-take : {A : Type 0} (n : ℕ) (l : List A) {a : A} → Mem a (take n l) → Mem a l
+pub mem-take : {A : Type 0} (n : ℕ) (l : List A) {a : A} → Mem a (take n l) → Mem a l
 mem-take n l {a} m = subst (Mem a) (take-append-drop n l) (Memᴰ·append-left (drop n l) m)
 
 -- ---- a sound state within the types can be written

@@ -1,5 +1,5 @@
 -- The numbers of a spare within the types of the code: each fits its field in an image, whose width is its type's.
--- Every value that the code can hold is so. Assumes nothing.
+-- Every spare that an accepted image holds or a step leaves is so (crates/doors, proofs/Typed.antt). Assumes nothing.
 use mathlib.Core.Path.{_≡_}
 use Prim.Native.Nat.{_^_, _<_}
 use lib.ListN.{length}

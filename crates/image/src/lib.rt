@@ -3,7 +3,6 @@
 use records::layout;
 use state::LockState;
 
-mod ranges;
 pub mod read;
 pub mod reader;
 pub mod write;

@@ -4,6 +4,7 @@
 --     Room      NoRoom exactly where the same operation without limits is done and ends over a limit
 --     Links     the holder's walk ends, its count is the number of entries passed, at most 128 (127 for a stored record)
 --     Orders    entries go in any order to one result
+--     Carried   what is true of every lock and kept by the ways in which operations make locks stays true of every lock
 --     Closed    a tree is closed under parents; overlap is symmetric; the empty set overlaps no set
 -- On the state, as the code's contracts say it:
 --     Again     no operation answers the closing check's Invariant; what the test accepts it accepts again (demand 3)
@@ -30,4 +31,5 @@ pub mod Room
 pub mod Links
 pub mod Orders
 pub mod Closed
+pub mod Carried
 pub mod Bench

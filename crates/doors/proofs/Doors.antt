@@ -1,0 +1,249 @@
+-- The library's door, over what its calls are proved to answer (`applyOf`, `deleteOf`):
+--     apply-door    where part is 2, the bytes written are not none and read back as exactly the spare that the step leaves;
+--                   in every other part every byte of every buffer stays
+--     chain-run     record after record, image to image, is the feed's run on the spare
+--     delete-door   the same of cablegorse_delete_defunct
+-- Assumes nothing.
+use mathlib.Core.Path.{_≡_, refl, sym, ap, _∙_, subst}
+use mathlib.Core.Bool.{Bool, true, false, cond, false≢true}
+use mathlib.Core.List.{List, [], _∷_, _++_}
+use mathlib.Core.Logic.{_⊎_, inl, inr, ⊎-elim}
+use Prim.Native.Nat.{ℕ, zero, suc, _+_, _*_, _≤_, _<_}
+use native.Mathlib.Omega.{arith}
+use lib.ListN.{length, take, drop}
+use lib.Dec.{eqb, ltb}
+use borrow.Author.Tests.{eqb-true}
+use Rattle.lists.specs.Tests.{_or_, Yes, No}
+use Rattle.lists.proofs.Tests.{cond-both, cond-true, cond-false, against, by, or-l, →no}
+use Rattle.ids.specs.declared.LockId.{LockId}
+use Rattle.state.specs.declared.ScopeKey.{ScopeKey}
+use Rattle.state.specs.Model.{modelOf}
+use Rattle.rules.specs.declared.Verdict.{Verdict}
+use Rattle.rules.specs.declared.Verdict.the-variants.{Sound}
+use Rattle.rules.specs.Rules.{brokenRule}
+use Rattle.locks.specs.declared.Dropped.{Dropped}
+use Rattle.locks.specs.Locks.{deleteDefunctOn}
+use Rattle.promises.specs.Steps.{acknowledge, stepOn as directOn}
+use Rattle.promises.proofs.Dropping.{drop-comes, delete-defunct-accepted}
+use Rattle.records.specs.Wire.{id}
+use Rattle.image.specs.declared.Spare.{Spare}
+use Rattle.image.specs.declared.Imaged.{Imaged}
+use Rattle.image.specs.declared.Reading.{Reading}
+use Rattle.image.specs.declared.Reading.the-variants as reading
+use Rattle.image.specs.declared.Writing.the-variants as W
+use Rattle.image.specs.Image.{readOn, imageOf, Written, done, fitted, writtenBy, writeOn, readingPaper}
+use Rattle.image.specs.Ranges.{InTypes}
+use Rattle.image.proofs.Trips.{Accepted, accepted, read-what-was-written}
+use Rattle.image.proofs.Writes.{length-image}
+use Rattle.records.proofs.Numbers.{Bytes}
+use Rattle.feed.specs.declared.events.Event.{Event}
+use Rattle.feed.specs.declared.events.Event.the-variants as E
+use Rattle.feed.specs.declared.events.Step.{Step}
+use Rattle.feed.specs.declared.taking.Taken.{Taken}
+use Rattle.feed.specs.declared.taking.Taken.the-variants as taking
+use Rattle.feed.specs.Feed.{numbered, bodyIn, takenAt, actOn, takenOn, stepOn, eventPaper, isApplied}
+use Rattle.feed.specs.Runs.{stops, runOn}
+use Rattle.feed.proofs.Turning.{turn-comes, step-comes}
+use Rattle.feed.proofs.Running.{run-go}
+use Rattle.takeover.proofs.Keeping.{step-keeps}
+use Rattle.cablegorse.specs.declared.Told.{Told}
+use Rattle.cablegorse.specs.Telling.{readingTold}
+use Rattle.cablegorse.specs.Boundary.{onImage}
+use Rattle.cablegorse.specs.declared.arguments.Scoped.{Scoped}
+use Rattle.cablegorse.specs.declared.arguments.Scoped.the-variants as scoped
+use Rattle.cablegorse.specs.Questions.{scopedOf}
+use Rattle.cablegorse.specs.Changes.{Changed, writtenOf, sizeOf, anyShort, stepPut, applyOf, Left, isGone, spareAfter, dropPut, onScopedLeft, deleteOf}
+use Rattle.doors.specs.Chains.{Chain, ended, applied, passed}
+use Rattle.doors.proofs.Typed.{accepted-typed, direct-typed, step-typed}
+
+abbrev reads : List ℕ → Spare → Type 0
+reads s sp = readOn s ≡ record { told = reading.Done; spare = sp }
+
+-- ---- an image that is read
+done-told : (t : Reading) → readingTold t .number ≡ 0 → t ≡ reading.Done
+unfolding readingTold readingPaper
+done-told reading.Done e = refl
+done-told (reading.Torn x) e = absurd (omega (arith, e))
+done-told (reading.BadKind x) e = absurd (omega (arith, e))
+done-told (reading.BadField x) e = absurd (omega (arith, e))
+done-told (reading.BadOrder x) e = absurd (omega (arith, e))
+done-told (reading.UnsoundState x) e = absurd (omega (arith, e))
+
+-- what holds of both ends holds of the call
+image-comes : {A : Type 0} (P : A → Type 0) (s : List ℕ) (refused : Told → A) (go : Spare → A) → ((t : Told) → P (refused t)) → ((sp : Spare) → reads s sp → P (go sp)) → P (onImage s refused go)
+unfolding onImage
+image-comes P s refused go f g =
+    cond-both P _ _ (eqb (readingTold (readOn s .told) .number) 0)
+    (λ t. g (readOn s .spare) (let q = done-told (readOn s .told) (eqb-true _ _ t) in λ i. record { told = q i; spare = readOn s .spare }))
+    (λ t. f (readingTold (readOn s .told)))
+
+-- ---- a spare within the types, written where it has room
+module _ (sp : Spare) (r : InTypes sp) (e : brokenRule (sp .state) ≡ Sound) (n : List ℕ) (room : No (ltb (length n) (sizeOf sp))) where
+  abbrev b : List ℕ
+  b = imageOf (modelOf (sp .state)) (sp .expected)
+
+  put : writeOn sp n ≡ done (W.Done (length b)) (b ++ drop (length b) n)
+  unfolding writeOn
+  put = ap (λ (v : Verdict). writtenBy v b n) e ∙ cond-false _ _ _ room
+
+  some-bytes : writtenOf (writeOn sp n .told) ≡ 0 → ⊥
+  unfolding writtenOf
+  some-bytes z = let q = ap (λ (w : Written). writtenOf (w .told)) put in omega (arith, length-image (modelOf (sp .state)) (sp .expected), q, z)
+
+  read-back : reads (take (writtenOf (writeOn sp n .told)) (writeOn sp n .out)) sp
+  unfolding writtenOf
+  read-back = subst (λ (w : Written). reads (take (writtenOf (w .told)) (w .out)) sp) (sym put) (read-what-was-written sp r n (b ++ drop (length b) n) (length b) put)
+
+-- ---- a record
+-- what the call shows: the image refused or an output too short, and every byte kept; no operation reached, and every byte
+-- kept; or the next image
+pub data Door (s f : List ℕ) (at : ℕ) (n m x : List ℕ) (c : Changed) : Type 0 where
+  kept : (c .told .part ≡ 1 → ⊥) → (c .told .part ≡ 2 → ⊥) → c .next ≡ n → c .removed ≡ m → c .expired ≡ x → Door s f at n m x c
+  unreached : (sp : Spare) → reads s sp → c .told .part ≡ 1 → c .next ≡ n → c .removed ≡ m → c .expired ≡ x → isApplied (stepOn sp f at .told .event) ≡ false
+      → c .told .number ≡ eventPaper (stepOn sp f at .told .event) .number → c .told .place ≡ stepOn sp f at .told .next → Door s f at n m x c
+  wrote : (sp : Spare) → reads s sp → c .told .part ≡ 2 → (c .told .written ≡ 0 → ⊥) → reads (take (c .told .written) (c .next)) (stepOn sp f at .spare)
+      → isApplied (stepOn sp f at .told .event) ≡ true → c .told .place ≡ stepOn sp f at .told .next → Door s f at n m x c
+
+module _ (s f : List ℕ) (at : ℕ) (n m x : List ℕ) (types : (sp : Spare) → reads s sp → InTypes sp) (y : Bytes f) where
+  short-first : (a c d : Bool) → No (a or c or d) → No a
+  unfolding _or_
+  short-first true c d e = absurd (false≢true (sym e))
+  short-first false c d e = refl
+
+  step-door : (sp : Spare) → reads s sp → Door s f at n m x (stepPut at (stepOn sp f at) n m x)
+  unfolding stepPut anyShort
+  step-door sp e =
+      let q = accepted s sp e .sound in
+      let st = stepOn sp f at in
+      cond-both (Door s f at n m x) _ _ (isApplied (st .told .event))
+      (λ t. cond-both (Door s f at n m x) _ _ (anyShort at st n m x) (λ u. kept (λ z. omega (arith, z)) (λ z. omega (arith, z)) refl refl refl) (λ u.
+      let room = short-first (ltb (length n) (sizeOf (st .spare))) _ _ u in
+      let k = step-keeps sp f at q in
+      let r = step-typed sp (types sp e) q f y at in
+      wrote sp e refl (some-bytes (st .spare) r k n room) (read-back (st .spare) r k n room) t refl))
+      (λ t. unreached sp e refl refl refl refl t refl refl)
+
+  pub typed-door : Door s f at n m x (applyOf s f at n m x)
+  unfolding applyOf
+  typed-door = image-comes (Door s f at n m x) s _ _ (λ t. kept (λ z. omega (arith, z)) (λ z. omega (arith, z)) refl refl refl) step-door
+
+pub apply-door : (s f : List ℕ) → Bytes s → Bytes f → (at : ℕ) (n m x : List ℕ) → Door s f at n m x (applyOf s f at n m x)
+apply-door s f ys yf at n m x = typed-door s f at n m x (λ sp e. accepted-typed s ys sp e) yf
+
+-- ---- a chain of calls
+one-spare : (s : List ℕ) (sp z : Spare) → reads s sp → reads s z → sp ≡ z
+one-spare s sp z e g = ap (λ (i : Imaged). i .spare) (sym e ∙ g)
+
+goes-on : (v : Event) → isApplied v ≡ true → stops v ≡ false
+unfolding isApplied
+goes-on (E.UnsoundState n) t = absurd (false≢true t)
+goes-on (E.Torn n) t = absurd (false≢true t)
+goes-on (E.BadKind n) t = absurd (false≢true t)
+goes-on (E.BadField n) t = absurd (false≢true t)
+goes-on (E.Repeat n) t = absurd (false≢true t)
+goes-on (E.Ahead n) t = absurd (false≢true t)
+goes-on (E.Applied o) t = refl
+
+passes-by : (v : Event) → isApplied v ≡ false → (eventPaper v .number ≡ 15) ⊎ (eventPaper v .number ≡ 16) → stops v ≡ false
+unfolding isApplied eventPaper
+passes-by (E.UnsoundState n) t w = absurd (⊎-elim (λ z. omega (arith, z)) (λ z. omega (arith, z)) w)
+passes-by (E.Torn n) t w = absurd (⊎-elim (λ z. omega (arith, z)) (λ z. omega (arith, z)) w)
+passes-by (E.BadKind n) t w = absurd (⊎-elim (λ z. omega (arith, z)) (λ z. omega (arith, z)) w)
+passes-by (E.BadField n) t w = absurd (⊎-elim (λ z. omega (arith, z)) (λ z. omega (arith, z)) w)
+passes-by (E.Repeat n) t w = refl
+passes-by (E.Ahead n) t w = refl
+passes-by (E.Applied o) t w = absurd (false≢true (sym t))
+
+-- what didn't reach its operation leaves the spare
+module _ (sp : Spare) (f : List ℕ) (at : ℕ) where
+  abbrev Unmoved : Step → Type 0
+  Unmoved z = isApplied (z .told .event) ≡ false → z .spare ≡ sp
+
+  taken-unmoved : (t : Taken) → Unmoved (takenOn sp f at t)
+  unfolding actOn isApplied
+  taken-unmoved (taking.Torn x) u = refl
+  taken-unmoved (taking.BadKind x) u = refl
+  taken-unmoved (taking.BadField x) u = refl
+  taken-unmoved (taking.Record p) u = turn-comes sp (p .frame .next) (numbered p (bodyIn f (p .frame))) Unmoved (λ d v. absurd (false≢true (sym v))) (λ v g w. refl) u
+
+  pub unmoved : Unmoved (stepOn sp f at)
+  unmoved = step-comes sp f at Unmoved (λ n u. refl) (λ e. taken-unmoved (takenAt f at))
+
+abbrev Ran : List ℕ → Spare → List ℕ → ℕ → Type 0
+Ran last sp f at = (k : ℕ) × reads last (runOn k sp f at)
+
+module _ (s f last : List ℕ) (at : ℕ) (n m x : List ℕ) (y : Bytes f) (sp : Spare) (e : reads s sp) (r : InTypes sp) where
+  abbrev c : Changed
+  c = applyOf s f at n m x
+
+  applied-run : c .told .part ≡ 2 → ((z : Spare) → reads (take (c .told .written) (c .next)) z → InTypes z → Ran last z f (c .told .place)) → Door s f at n m x c → Ran last sp f at
+  applied-run p rest (kept a d g h i) = absurd (d p)
+  applied-run p rest (unreached z ez q g h i a b d) = absurd (omega (arith, p, q))
+  applied-run p rest (wrote z ez q nz back a d) =
+      let o = one-spare s z sp ez e in
+      let back′ : reads (take (c .told .written) (c .next)) (stepOn sp f at .spare) = subst (λ (w : Spare). reads (take (c .told .written) (c .next)) (stepOn w f at .spare)) o back in
+      let a′ : isApplied (stepOn sp f at .told .event) ≡ true = subst (λ (w : Spare). isApplied (stepOn w f at .told .event) ≡ true) o a in
+      let d′ : c .told .place ≡ stepOn sp f at .told .next = subst (λ (w : Spare). c .told .place ≡ stepOn w f at .told .next) o d in
+      let k = rest (stepOn sp f at .spare) back′ (step-typed sp r (accepted s sp e .sound) f y at) in
+      (suc (k .0), subst (reads last) (ap (runOn (k .0) (stepOn sp f at .spare) f) d′ ∙ sym (run-go sp f at (k .0) (goes-on _ a′))) (k .1))
+
+  passed-run : c .told .part ≡ 1 → (c .told .number ≡ 15) ⊎ (c .told .number ≡ 16) → Ran last sp f (c .told .place) → Door s f at n m x c → Ran last sp f at
+  passed-run p w k (kept a d g h i) = absurd (a p)
+  passed-run p w k (wrote z ez q nz back a d) = absurd (omega (arith, p, q))
+  passed-run p w k (unreached z ez q g h i a b d) =
+      let o = one-spare s z sp ez e in
+      let a′ : isApplied (stepOn sp f at .told .event) ≡ false = subst (λ (v : Spare). isApplied (stepOn v f at .told .event) ≡ false) o a in
+      let b′ : c .told .number ≡ eventPaper (stepOn sp f at .told .event) .number = subst (λ (v : Spare). c .told .number ≡ eventPaper (stepOn v f at .told .event) .number) o b in
+      let d′ : c .told .place ≡ stepOn sp f at .told .next = subst (λ (v : Spare). c .told .place ≡ stepOn v f at .told .next) o d in
+      let w′ = ⊎-elim (λ t. inl (sym b′ ∙ t)) (λ t. inr (sym b′ ∙ t)) w in
+      (suc (k .0), subst (reads last) (ap (runOn (k .0) sp f) d′ ∙ ap (λ (v : Spare). runOn (k .0) v f (stepOn sp f at .told .next)) (sym (unmoved sp f at a′)) ∙ sym (run-go sp f at (k .0) (passes-by _ a′ w′))) (k .1))
+
+  same-door : Door s f at n m x c
+  same-door = typed-door s f at n m x (λ z ez. subst InTypes (one-spare s sp z e ez) r) y
+
+pub typed-run : (f : List ℕ) → Bytes f → {s last : List ℕ} {at end : ℕ} → Chain f s at last end → (sp : Spare) → reads s sp → InTypes sp → Ran last sp f at
+unfolding runOn
+typed-run f y ended sp e r = (0, e)
+typed-run f y (applied {image} {last} {at} {end} n m x p rest) sp e r = applied-run image f last at n m x y sp e r p (λ z ez rz. typed-run f y rest z ez rz) (same-door image f last at n m x y sp e r)
+typed-run f y (passed {image} {last} {at} {end} n m x p w rest) sp e r = passed-run image f last at n m x y sp e r p w (typed-run f y rest sp e r) (same-door image f last at n m x y sp e r)
+
+-- from any accepted image
+pub chain-run : (f : List ℕ) → Bytes f → {s last : List ℕ} {at end : ℕ} → Bytes s → Chain f s at last end → (sp : Spare) → reads s sp → (k : ℕ) × (readOn last ≡ record { told = reading.Done; spare = runOn k sp f at })
+chain-run f y {s} ys ch sp e = typed-run f y ch sp e (accepted-typed s ys sp e)
+
+-- ---- cablegorse_delete_defunct: nothing written and every byte kept, or the image of the spare without the entry, from which
+-- chains go on (typed-run)
+module _ (s : List ℕ) (i : LockId) (subject : ℕ) (n : List ℕ) where
+  pub data Deleted (c : Left) : Type 0 where
+    kept : c .told .written ≡ 0 → c .next ≡ n → Deleted c
+    wrote : (sp : Spare) (k : ScopeKey) → reads s sp → c .told .part ≡ 2 → (c .told .written ≡ 0 → ⊥)
+        → reads (take (c .told .written) (c .next)) (spareAfter (sp .expected) (deleteDefunctOn (sp .state) i k subject)) → InTypes (spareAfter (sp .expected) (deleteDefunctOn (sp .state) i k subject)) → Deleted c
+
+  module _ (types : (sp : Spare) → reads s sp → InTypes sp) where
+    dropped-typed : (sp : Spare) → reads s sp → (k : ScopeKey) → InTypes (spareAfter (sp .expected) (deleteDefunctOn (sp .state) i k subject))
+    unfolding directOn
+    dropped-typed sp e k =
+        let r = types sp e in
+        drop-comes (λ (d : Dropped). InTypes (spareAfter (sp .expected) d)) (sp .state) i k subject (λ v. r) r r
+        (direct-typed sp r (accepted s sp e .sound) (acknowledge i) tt (sp .expected) (r .expected))
+
+    drop-door : (sp : Spare) → reads s sp → (k : ScopeKey) → Deleted (dropPut (sp .expected) (deleteDefunctOn (sp .state) i k subject) n)
+    unfolding dropPut
+    drop-door sp e k =
+        let d = deleteDefunctOn (sp .state) i k subject in
+        let a = spareAfter (sp .expected) d in
+        let r = dropped-typed sp e k in
+        let q = delete-defunct-accepted (sp .state) (accepted s sp e .sound) i k subject d refl in
+        cond-both Deleted _ _ (isGone (d .told))
+        (λ t. cond-both Deleted _ _ (ltb (length n) (sizeOf a)) (λ u. kept refl refl) (λ u. wrote sp k e refl (some-bytes a r q n u) (read-back a r q n u) r))
+        (λ t. kept refl refl)
+
+    scoped-door : (sp : Spare) → reads s sp → (o : Scoped) → Deleted (onScopedLeft n (λ k. dropPut (sp .expected) (deleteDefunctOn (sp .state) i k subject) n) o)
+    scoped-door sp e scoped.Bad = kept refl refl
+    scoped-door sp e (scoped.At k) = drop-door sp e k
+
+pub delete-door : (s : List ℕ) → Bytes s → (hi lo kind number subject : ℕ) (n : List ℕ) → Deleted s (id hi lo) subject n (deleteOf s hi lo kind number subject n)
+unfolding deleteOf
+delete-door s y hi lo kind number subject n =
+    image-comes (Deleted s (id hi lo) subject n) s _ _ (λ t. kept refl refl)
+    (λ sp e. scoped-door s (id hi lo) subject n (λ z ez. accepted-typed s y z ez) sp e (scopedOf kind number))
