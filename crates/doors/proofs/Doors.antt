@@ -53,7 +53,7 @@ use Rattle.cablegorse.specs.declared.arguments.Scoped.{Scoped}
 use Rattle.cablegorse.specs.declared.arguments.Scoped.the-variants as scoped
 use Rattle.cablegorse.specs.Questions.{scopedOf}
 use Rattle.cablegorse.specs.Changes.{Changed, writtenOf, sizeOf, anyShort, stepPut, applyOf, Left, isGone, spareAfter, dropPut, onScopedLeft, deleteOf}
-use Rattle.doors.specs.Chains.{Chain, ended, applied, passed}
+use Rattle.doors.specs.Chains.{Chain, ended, applied, passed, calls}
 use Rattle.doors.proofs.Typed.{accepted-typed, direct-typed, step-typed}
 
 abbrev reads : List ℕ → Spare → Type 0
@@ -169,14 +169,14 @@ module _ (sp : Spare) (f : List ℕ) (at : ℕ) where
   pub unmoved : Unmoved (stepOn sp f at)
   unmoved = step-comes sp f at Unmoved (λ n u. refl) (λ e. taken-unmoved (takenAt f at))
 
-abbrev Ran : List ℕ → Spare → List ℕ → ℕ → Type 0
-Ran last sp f at = (k : ℕ) × reads last (runOn k sp f at)
+abbrev Ran : ℕ → List ℕ → Spare → List ℕ → ℕ → Type 0
+Ran k last sp f at = reads last (runOn k sp f at)
 
-module _ (s f last : List ℕ) (at : ℕ) (n m x : List ℕ) (y : Bytes f) (sp : Spare) (e : reads s sp) (r : InTypes sp) where
+module _ (s f last : List ℕ) (at : ℕ) (n m x : List ℕ) (y : Bytes f) (sp : Spare) (e : reads s sp) (r : InTypes sp) (k : ℕ) where
   abbrev c : Changed
   c = applyOf s f at n m x
 
-  applied-run : c .told .part ≡ 2 → ((z : Spare) → reads (take (c .told .written) (c .next)) z → InTypes z → Ran last z f (c .told .place)) → Door s f at n m x c → Ran last sp f at
+  applied-run : c .told .part ≡ 2 → ((z : Spare) → reads (take (c .told .written) (c .next)) z → InTypes z → Ran k last z f (c .told .place)) → Door s f at n m x c → Ran (suc k) last sp f at
   applied-run p rest (kept a d g h i) = absurd (d p)
   applied-run p rest (unreached z ez q g h i a b d) = absurd (omega (arith, p, q))
   applied-run p rest (wrote z ez q nz back a d) =
@@ -184,31 +184,31 @@ module _ (s f last : List ℕ) (at : ℕ) (n m x : List ℕ) (y : Bytes f) (sp :
       let back′ : reads (take (c .told .written) (c .next)) (stepOn sp f at .spare) = subst (λ (w : Spare). reads (take (c .told .written) (c .next)) (stepOn w f at .spare)) o back in
       let a′ : isApplied (stepOn sp f at .told .event) ≡ true = subst (λ (w : Spare). isApplied (stepOn w f at .told .event) ≡ true) o a in
       let d′ : c .told .place ≡ stepOn sp f at .told .next = subst (λ (w : Spare). c .told .place ≡ stepOn w f at .told .next) o d in
-      let k = rest (stepOn sp f at .spare) back′ (step-typed sp r (accepted s sp e .sound) f y at) in
-      (suc (k .0), subst (reads last) (ap (runOn (k .0) (stepOn sp f at .spare) f) d′ ∙ sym (run-go sp f at (k .0) (goes-on _ a′))) (k .1))
+      let ran = rest (stepOn sp f at .spare) back′ (step-typed sp r (accepted s sp e .sound) f y at) in
+      subst (reads last) (ap (runOn k (stepOn sp f at .spare) f) d′ ∙ sym (run-go sp f at k (goes-on _ a′))) ran
 
-  passed-run : c .told .part ≡ 1 → (c .told .number ≡ 15) ⊎ (c .told .number ≡ 16) → Ran last sp f (c .told .place) → Door s f at n m x c → Ran last sp f at
-  passed-run p w k (kept a d g h i) = absurd (a p)
-  passed-run p w k (wrote z ez q nz back a d) = absurd (omega (arith, p, q))
-  passed-run p w k (unreached z ez q g h i a b d) =
+  passed-run : c .told .part ≡ 1 → (c .told .number ≡ 15) ⊎ (c .told .number ≡ 16) → Ran k last sp f (c .told .place) → Door s f at n m x c → Ran (suc k) last sp f at
+  passed-run p w ran (kept a d g h i) = absurd (a p)
+  passed-run p w ran (wrote z ez q nz back a d) = absurd (omega (arith, p, q))
+  passed-run p w ran (unreached z ez q g h i a b d) =
       let o = one-spare s z sp ez e in
       let a′ : isApplied (stepOn sp f at .told .event) ≡ false = subst (λ (v : Spare). isApplied (stepOn v f at .told .event) ≡ false) o a in
       let b′ : c .told .number ≡ eventPaper (stepOn sp f at .told .event) .number = subst (λ (v : Spare). c .told .number ≡ eventPaper (stepOn v f at .told .event) .number) o b in
       let d′ : c .told .place ≡ stepOn sp f at .told .next = subst (λ (v : Spare). c .told .place ≡ stepOn v f at .told .next) o d in
       let w′ = ⊎-elim (λ t. inl (sym b′ ∙ t)) (λ t. inr (sym b′ ∙ t)) w in
-      (suc (k .0), subst (reads last) (ap (runOn (k .0) sp f) d′ ∙ ap (λ (v : Spare). runOn (k .0) v f (stepOn sp f at .told .next)) (sym (unmoved sp f at a′)) ∙ sym (run-go sp f at (k .0) (passes-by _ a′ w′))) (k .1))
+      subst (reads last) (ap (runOn k sp f) d′ ∙ ap (λ (v : Spare). runOn k v f (stepOn sp f at .told .next)) (sym (unmoved sp f at a′)) ∙ sym (run-go sp f at k (passes-by _ a′ w′))) ran
 
   same-door : Door s f at n m x c
   same-door = typed-door s f at n m x (λ z ez. subst InTypes (one-spare s sp z e ez) r) y
 
-pub typed-run : (f : List ℕ) → Bytes f → {s last : List ℕ} {at end : ℕ} → Chain f s at last end → (sp : Spare) → reads s sp → InTypes sp → Ran last sp f at
-unfolding runOn
-typed-run f y ended sp e r = (0, e)
-typed-run f y (applied {image} {last} {at} {end} n m x p rest) sp e r = applied-run image f last at n m x y sp e r p (λ z ez rz. typed-run f y rest z ez rz) (same-door image f last at n m x y sp e r)
-typed-run f y (passed {image} {last} {at} {end} n m x p w rest) sp e r = passed-run image f last at n m x y sp e r p w (typed-run f y rest sp e r) (same-door image f last at n m x y sp e r)
+pub typed-run : (f : List ℕ) → Bytes f → {s last : List ℕ} {at end : ℕ} → (ch : Chain f s at last end) → (sp : Spare) → reads s sp → InTypes sp → Ran (calls ch) last sp f at
+unfolding runOn calls
+typed-run f y ended sp e r = e
+typed-run f y (applied {image} {last} {at} {end} n m x p rest) sp e r = applied-run image f last at n m x y sp e r (calls rest) p (λ z ez rz. typed-run f y rest z ez rz) (same-door image f last at n m x y sp e r (calls rest))
+typed-run f y (passed {image} {last} {at} {end} n m x p w rest) sp e r = passed-run image f last at n m x y sp e r (calls rest) p w (typed-run f y rest sp e r) (same-door image f last at n m x y sp e r (calls rest))
 
 -- from any accepted image
-pub chain-run : (f : List ℕ) → Bytes f → {s last : List ℕ} {at end : ℕ} → Bytes s → Chain f s at last end → (sp : Spare) → reads s sp → (k : ℕ) × (readOn last ≡ record { told = reading.Done; spare = runOn k sp f at })
+pub chain-run : (f : List ℕ) → Bytes f → {s last : List ℕ} {at end : ℕ} → Bytes s → (ch : Chain f s at last end) → (sp : Spare) → reads s sp → readOn last ≡ record { told = reading.Done; spare = runOn (calls ch) sp f at }
 chain-run f y {s} ys ch sp e = typed-run f y ch sp e (accepted-typed s ys sp e)
 
 -- ---- cablegorse_delete_defunct: nothing written and every byte kept, or the image of the spare without the entry, from which
