@@ -1,5 +1,6 @@
 -- Document 01's traps, each by one computed example that a definition with the trap in it would fail:
 --     the expanded trees are not what is removed: each root's tree is removed from what then remains
+--     every root's tree goes, not the first one's alone, and in it children before their root
 --     13 looks at what is left, not at the entries on the way there
 --     an acknowledgement at the last revision is not undone
 --     8 comes before 11.4 in a vehicle's insertion
@@ -70,6 +71,11 @@ three = lockOf 1 Vehicle wholeVehicle ∷ group ∷ ecu 3 ∷ []
 pub not-expanded : map akey (rootsParts (0 ∷ 1 ∷ 0 ∷ 2 ∷ []) three .kept) ≡ 3 ∷ []
 unfolding rootsParts rootParts treeParts childOf inTree narrow hasId key listedIn sameId isGroup ecuIn covers inSet wordOf _and_ _or_ non
 not-expanded = refl
+
+-- ---- the roots 1 and 3: both trees go, the group before the vehicle lock that is its parent
+pub every-root : map akey (rootsParts (0 ∷ 1 ∷ 0 ∷ 3 ∷ []) three .gone) ≡ 2 ∷ 1 ∷ 3 ∷ []
+unfolding rootsParts rootParts treeParts childOf inTree narrow hasId key listedIn sameId isGroup ecuIn covers inSet wordOf _and_ _or_ non
+every-root = refl
 
 -- ---- one active lock, no defunct one, and room for just that: a replacement whose entry is superseded is done
 pub room-at-the-end : judgeReplace (record { active = 1; defunct = 0 }) (record { revision = 1; active = ecu 1 ∷ []; defunct = [] }) (0 ∷ 1 ∷ []) (ecu 2) 0 0 ≡ answer.Done

@@ -43,7 +43,6 @@ returns-2 : tie.Need-returns-2
 unfolding applyOf
 returns-2 c = let a = c .before .before .before .before .before .before .before .before .before .before .before .before .before .before .before .before .before .before .before .before .before .args in c .before .before .before .before .before .before .put-step .ensures ∙ ap (λ (z : Step). stepPut (a .at) z (now (a .next)) (now (a .removed)) (now (a .expired))) (c .before .before .before .before .before .before .before .before .before .before .step .ensures) ∙ image-read _ (λ t. changed (still t 0 0 (a .at)) (now (a .next)) (now (a .removed)) (now (a .expired))) (λ sp. stepPut (a .at) (stepOn sp (now (a .stream)) (a .at)) (now (a .next)) (now (a .removed)) (now (a .expired))) _ (c .before .before .before .before .before .before .before .before .before .before .before .before .before .before .before .read-image .ensures) _ (c .before .before .before .before .before .before .before .before .before .before .before .before .before .before .of-reading .ensures) (c .before .before .before .before .before .before .before .before .before .before .before .before .if1 .left)
 
--- antt refused `cablegorse-apply-spec` as it was built: the module's report says why
 pub cablegorse-apply-spec : {M : Type 1} → statement M
 cablegorse-apply-spec =
     tie.close

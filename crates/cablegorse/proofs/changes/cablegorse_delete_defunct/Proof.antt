@@ -59,7 +59,6 @@ returns-3 : tie.Need-returns-3
 unfolding deleteOf
 returns-3 c = let a = c .before .before .before .before .before .before .before .before .before .before .before .before .before .before .before .before .before .args in let i = c .before .before .before .before .before .before .before .before .before .before .before .before .before .before .read-image .result in c .before .before .put-dropped .ensures ∙ ap (λ (z : Dropped). dropPut (i .spare .expected) z (now (a .next))) (c .before .before .before .before .delete-defunct .ensures) ∙ ap (onScopedLeft (now (a .next)) (λ k. dropPut (i .spare .expected) (deleteDefunctOn (i .spare .state) (id (a .hi) (a .lo)) k (a .subject)) (now (a .next)))) (sym (c .before .before .before .before .before .before .before .k .given .1) ∙ c .before .before .before .before .before .before .before .before .before .scope-in .ensures) ∙ image-read _ (λ t. left (still t 0 0 0) (now (a .next))) (λ sp. onScopedLeft (now (a .next)) (λ k. dropPut (sp .expected) (deleteDefunctOn (sp .state) (id (a .hi) (a .lo)) k (a .subject)) (now (a .next))) (scopedOf (a .kind) (a .number))) _ (c .before .before .before .before .before .before .before .before .before .before .before .before .before .before .read-image .ensures) _ (c .before .before .before .before .before .before .before .before .before .before .before .before .before .of-reading .ensures) (c .before .before .before .before .before .before .before .before .before .before .before .if1 .left)
 
--- antt refused `cablegorse-delete-defunct-spec` as it was built: the module's report says why
 pub cablegorse-delete-defunct-spec : {M : Type 1} → statement M
 cablegorse-delete-defunct-spec =
     tie.close

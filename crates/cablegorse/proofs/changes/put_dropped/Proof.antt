@@ -45,7 +45,6 @@ same-length c = search needs
 returns-3 : tie.Need-returns-3
 returns-3 c = let a = c .before .before .before .before .before .before .before .before .before .before .before .before .before .args in next-put (a .expected) (a .d) _ _ (c .before .before .before .before .before .before .before .before .before .before .before .of-dropping .ensures) _ (c .before .before .before .before .before .before .before .before .before .before .is-gone .ensures) (c .before .before .before .before .before .before .before .before .before .if1 .left) _ (c .before .before .before .before .before .before .before .image-size .ensures) (c .before .before .before .before .before .before .if2 .left) _ _ (c .before .before .before .before .write-image .ensures) _ (c .before .written-of .ensures) _ (c .applied .ensures)
 
--- antt refused `put-dropped-spec` as it was built: the module's report says why
 pub put-dropped-spec : {M : Type 1} → statement M
 put-dropped-spec =
     tie.close

@@ -88,7 +88,6 @@ same-length-3 c = search needs
 returns-3 : tie.Need-returns-3
 returns-3 c = let a = c .before .before .before .before .before .before .before .before .before .before .before .before .before .before .before .before .before .before .before .before .before .before .before .before .before .before .before .before .args in all-put (a .at) (a .s) _ _ _ _ (c .before .before .before .before .before .before .before .before .before .before .before .before .before .before .before .before .before .before .before .before .before .before .before .of-event .ensures) _ (c .before .before .before .before .before .before .before .before .before .before .before .before .before .before .before .before .before .before .before .before .before .before .is-applied .ensures) (c .before .before .before .before .before .before .before .before .before .before .before .before .before .before .before .before .before .before .before .before .before .if1 .left) _ _ _ (c .before .before .before .before .before .before .before .before .before .before .before .before .before .before .before .before .before .before .before .image-size .ensures) (locks-gone (c .before .before .before .before .before .before .before .before .before .before .before .before .before .before .before .before .before .before)) (ids-lapsed (c .before .before .before .before .before .before .before .before .before .before .before .before .before .before .before .before .before)) (c .before .before .before .before .before .before .before .before .before .before .before .before .before .before .before .before .if2 .left) _ _ _ _ (c .before .before .before .before .before .before .before .before .before .before .before .before .before .before .write-image .ensures) (c .before .before .before .before .before .before .before .before .before .store-actives .ensures) (c .before .before .before .before .store-expired .ensures) _ (c .before .written-of .ensures) _ (c .applied .ensures)
 
--- antt refused `put-step-spec` as it was built: the module's report says why
 pub put-step-spec : {M : Type 1} → statement M
 put-step-spec =
     tie.close

@@ -27,7 +27,6 @@ returns-3 : tie.Need-returns-3
 unfolding writtenOf
 returns-3 c = ap writtenOf (sym (c .enum-told2 .given .1))
 
--- antt refused `written-of-spec` as it was built: the module's report says why
 pub written-of-spec : {M : Type 1} → statement M
 written-of-spec =
     tie.close (tie.spec enum-known-w enum-told enum-told-2 returns returns-2 returns-3)

@@ -62,7 +62,6 @@ returns-5 : tie.Need-returns-5
 unfolding acknowledgementPaper
 returns-5 c = c .one4 .ensures ∙ ap (λ (x : Acknowledgement). toldOf (paper (c .before .before .before .before .args .n) (acknowledgementPaper x .values))) (sym (c .before .before .a .given .1))
 
--- antt refused `of-acknowledgement-spec` as it was built: the module's report says why
 pub of-acknowledgement-spec : {M : Type 1} → statement M
 of-acknowledgement-spec =
     tie.close

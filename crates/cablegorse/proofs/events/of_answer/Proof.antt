@@ -182,7 +182,6 @@ returns-17 : tie.Need-returns-17
 unfolding paperOf
 returns-17 c = c .none6 .ensures ∙ ap (λ (x : Answer). toldOf (paper (c .before .before .before .args .n) (paperOf x .values))) (sym (c .before .enum-told8 .given .1))
 
--- antt refused `of-answer-spec` as it was built: the module's report says why
 pub of-answer-spec : {M : Type 1} → statement M
 of-answer-spec =
     tie.close

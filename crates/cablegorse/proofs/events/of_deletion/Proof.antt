@@ -62,7 +62,6 @@ returns-5 : tie.Need-returns-5
 unfolding deletionPaper
 returns-5 c = c .one2 .ensures ∙ ap (λ (x : Deletion). toldOf (paper (c .before .before .before .before .args .n) (deletionPaper x .values))) (sym (c .before .before .a2 .given .1))
 
--- antt refused `of-deletion-spec` as it was built: the module's report says why
 pub of-deletion-spec : {M : Type 1} → statement M
 of-deletion-spec =
     tie.close

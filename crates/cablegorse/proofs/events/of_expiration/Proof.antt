@@ -72,7 +72,6 @@ returns-6 : tie.Need-returns-6
 unfolding expirationPaper
 returns-6 c = c .one4 .ensures ∙ ap (λ (x : Expiration). toldOf (paper (c .before .before .before .before .args .n) (expirationPaper x .values))) (sym (c .before .before .a2 .given .1))
 
--- antt refused `of-expiration-spec` as it was built: the module's report says why
 pub of-expiration-spec : {M : Type 1} → statement M
 of-expiration-spec =
     tie.close

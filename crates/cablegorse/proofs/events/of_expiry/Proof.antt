@@ -52,7 +52,6 @@ returns-4 : tie.Need-returns-4
 unfolding expiryPaper
 returns-4 c = c .one2 .ensures ∙ ap (λ (x : DefunctExpiry). toldOf (paper (c .before .before .before .before .args .n) (expiryPaper x .values))) (sym (c .before .before .a .given .1))
 
--- antt refused `of-expiry-spec` as it was built: the module's report says why
 pub of-expiry-spec : {M : Type 1} → statement M
 of-expiry-spec =
     tie.close

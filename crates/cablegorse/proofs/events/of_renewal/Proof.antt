@@ -82,7 +82,6 @@ returns-7 : tie.Need-returns-7
 unfolding renewalPaper
 returns-7 c = c .one2 .ensures ∙ ap (λ (x : Renewal). toldOf (paper (c .before .before .before .before .args .n) (renewalPaper x .values))) (sym (c .before .before .a2 .given .1))
 
--- antt refused `of-renewal-spec` as it was built: the module's report says why
 pub of-renewal-spec : {M : Type 1} → statement M
 of-renewal-spec =
     tie.close

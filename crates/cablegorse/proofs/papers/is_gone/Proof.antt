@@ -48,7 +48,6 @@ returns-6 : tie.Need-returns-6
 unfolding isGone
 returns-6 c = ap isGone (sym (c .enum-told6 .given .1))
 
--- antt refused `is-gone-spec` as it was built: the module's report says why
 pub is-gone-spec : {M : Type 1} → statement M
 is-gone-spec =
     tie.close

@@ -71,7 +71,6 @@ returns-6 : tie.Need-returns-6
 unfolding droppingPaper
 returns-6 c = c .none2 .ensures ∙ ap (λ (x : Dropping). toldOf (droppingPaper x)) (sym (c .before .enum-told5 .given .1))
 
--- antt refused `of-dropping-spec` as it was built: the module's report says why
 pub of-dropping-spec : {M : Type 1} → statement M
 of-dropping-spec =
     tie.close

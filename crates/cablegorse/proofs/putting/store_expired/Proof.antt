@@ -31,7 +31,6 @@ same-length c = search needs
 returns-2 : tie.Need-returns-2
 returns-2 c = all-stored idBytes 16 length-id _ _ _ _ _ (count (c .before .before .before .before .before)) (c .before .before .before .before .if1 .left) _ (c .before .before .put-expired .ensures)
 
--- antt refused `store-expired-spec` as it was built: the module's report says why
 pub store-expired-spec : {M : Type 1} → statement M
 store-expired-spec =
     tie.close (tie.spec at-most-requires mul-if1 returns put-expired-requires same-length returns-2)

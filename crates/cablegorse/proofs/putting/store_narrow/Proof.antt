@@ -31,7 +31,6 @@ same-length c = search needs
 returns-2 : tie.Need-returns-2
 returns-2 c = all-stored idBytes 16 length-id _ _ _ _ _ (count (c .before .before .before .before .before)) (c .before .before .before .before .if1 .left) _ (c .before .before .put-narrow .ensures)
 
--- antt refused `store-narrow-spec` as it was built: the module's report says why
 pub store-narrow-spec : {M : Type 1} → statement M
 store-narrow-spec =
     tie.close (tie.spec at-most-requires mul-if1 returns put-narrow-requires same-length returns-2)

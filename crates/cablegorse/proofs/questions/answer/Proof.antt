@@ -137,7 +137,6 @@ returns-14 c = let a = c .before .before .before .before .args in c .of-truth .e
 returns-15 : tie.Need-returns-15
 returns-15 c = let r = c .before .before .match .rest in c .plain .ensures ∙ ap plainReply (c .before .one .ensures) ∙ unknown _ _ _ _ _ (r .0 .0 .0 .0 .0 .0 .0 .0 .0 .0 .0 .0 .0 .1) (r .0 .0 .0 .0 .0 .0 .0 .0 .0 .0 .0 .0 .1) (r .0 .0 .0 .0 .0 .0 .0 .0 .0 .0 .0 .1) (r .0 .0 .0 .0 .0 .0 .0 .0 .0 .0 .1) (r .0 .0 .0 .0 .0 .0 .0 .0 .0 .1) (r .0 .0 .0 .0 .0 .0 .0 .0 .1) (r .0 .0 .0 .0 .0 .0 .0 .1) (r .0 .0 .0 .0 .0 .0 .1) (r .0 .0 .0 .0 .0 .1) (r .0 .0 .0 .0 .1) (r .0 .0 .0 .1) (r .0 .0 .1) (r .0 .1) (r .1)
 
--- antt refused `answer-spec` as it was built: the module's report says why
 pub answer-spec : {M : Type 1} → statement M
 answer-spec =
     tie.close

@@ -33,7 +33,6 @@ returns-2 : tie.Need-returns-2
 unfolding holderAsked
 returns-2 c = c .of-holder .ensures ∙ ap holderReply (c .before .current-holder .ensures) ∙ ap (onEntry (λ d. holderReply (currentHolderOn (c .before .before .before .before .before .before .before .args .s) d))) (sym (c .before .before .before .g2 .given .1) ∙ c .before .before .before .before .before .entry-in .ensures)
 
--- antt refused `ask-holder-spec` as it was built: the module's report says why
 pub ask-holder-spec : {M : Type 1} → statement M
 ask-holder-spec =
     tie.close

@@ -33,7 +33,6 @@ returns-2 : tie.Need-returns-2
 unfolding narrowAsked
 returns-2 c = c .of-narrow .ensures ∙ ap narrowReply (c .before .covered-narrow-locks .ensures) ∙ ap (onLock (λ a. narrowReply (coveredNarrowOn (c .before .before .before .before .before .before .before .args .s) a))) (sym (c .before .before .before .g2 .given .1) ∙ c .before .before .before .before .before .lock-in .ensures)
 
--- antt refused `ask-narrow-spec` as it was built: the module's report says why
 pub ask-narrow-spec : {M : Type 1} → statement M
 ask-narrow-spec =
     tie.close

@@ -33,7 +33,6 @@ returns-2 : tie.Need-returns-2
 unfolding uncoveredAsked
 returns-2 c = c .of-defunct .ensures ∙ ap defunctReply (c .before .uncovered-defunct .ensures) ∙ ap (onLock (λ a. defunctReply (uncoveredDefunctOn (c .before .before .before .before .before .before .before .before .before .args .s) (a .lock .subject) (a .lock .scope) (a .lock .coverage) (c .before .before .before .before .before .before .before .before .before .args .time)))) (sym (c .before .before .before .before .before .g2 .given .1) ∙ c .before .before .before .before .before .before .before .lock-in .ensures)
 
--- antt refused `ask-uncovered-spec` as it was built: the module's report says why
 pub ask-uncovered-spec : {M : Type 1} → statement M
 ask-uncovered-spec =
     tie.close

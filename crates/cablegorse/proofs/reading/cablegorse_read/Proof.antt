@@ -34,7 +34,6 @@ returns-2 : tie.Need-returns-2
 unfolding readOf
 returns-2 c = let a = c .before .before .before .before .before .before .before .before .before .before .before .before .before .before .args in c .before .before .put-reply .ensures ∙ ap (λ (p : Reply). putOf p (now (a .out))) (c .before .before .before .before .answer .ensures) ∙ image-read _ (λ t. kept t (now (a .out))) (λ sp. putOf (replyOn (sp .state) (a .question) (a .x) (a .y) (now (a .given))) (now (a .out))) _ (c .before .before .before .before .before .before .before .before .before .before .read-image .ensures) _ (c .before .before .before .before .before .before .before .before .before .of-reading .ensures) (c .before .before .before .before .before .before .before .if1 .left)
 
--- antt refused `cablegorse-read-spec` as it was built: the module's report says why
 pub cablegorse-read-spec : {M : Type 1} → statement M
 cablegorse-read-spec =
     tie.close

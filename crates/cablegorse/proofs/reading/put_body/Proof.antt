@@ -52,7 +52,6 @@ returns-4 : tie.Need-returns-4
 unfolding bytesOfBody
 returns-4 c = c .before .before .store-narrow .ensures ∙ put-some (c .before .before .before .before .before .before .before .before .args .ids) _ _ _ (c .before .before .before .before .before .body3 .given .1)
 
--- antt refused `put-body-spec` as it was built: the module's report says why
 pub put-body-spec : {M : Type 1} → statement M
 put-body-spec =
     tie.close

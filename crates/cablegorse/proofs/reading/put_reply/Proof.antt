@@ -26,7 +26,6 @@ returns-2 : tie.Need-returns-2
 unfolding putOf
 returns-2 c = put-whole (c .before .before .before .before .before .before .before .before .before .args .r .told) (bytesIn (c .before .before .before .before .before .before .before .before .before .args .r)) _ _ (c .before .before .before .before .before .size-of .ensures) (c .before .before .before .before .if1 .left) _ (c .before .before .put-body .ensures)
 
--- antt refused `put-reply-spec` as it was built: the module's report says why
 pub put-reply-spec : {M : Type 1} → statement M
 put-reply-spec =
     tie.close
