@@ -1,4 +1,5 @@
--- Document 01's traps, each by one computed example that a definition with the trap in it would fail:
+-- Document 01's traps, and "only the first root" of its answer sheet, each by one computed example that a definition with
+-- the wrong reading in it would fail:
 --     the expanded trees are not what is removed: each root's tree is removed from what then remains
 --     every root's tree goes, not the first one's alone, and in it children before their root
 --     13 looks at what is left, not at the entries on the way there
