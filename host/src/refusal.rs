@@ -12,7 +12,7 @@ use crate::{
 #[derive(Clone, Copy, Debug, PartialEq, Eq, Hash)]
 #[non_exhaustive]
 pub enum Reason {
-    /// 0: the closing check failed. Proved never to be given.
+    /// 0: the closing check of an insertion or a replacement failed. Proved never to be given.
     Closing,
     /// 1: the lock to insert isn't a vehicle lock without a parent.
     NoRootVehicle,
@@ -133,7 +133,7 @@ pub enum Refusal {
     LockExpired,
     /// 10: a renewal that doesn't extend.
     RenewalNotExtension,
-    /// 11: the result would be unsound.
+    /// 11: the result of an insertion or a replacement would be unsound.
     Invariant {
         /// In which way.
         reason: Reason,

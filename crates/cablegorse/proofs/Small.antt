@@ -51,7 +51,6 @@ small-renewal (renewal.ActiveLockNotFound i) = omega arith
 small-renewal renewal.RevisionOverflow = omega arith
 small-renewal renewal.LockExpired = omega arith
 small-renewal renewal.RenewalNotExtension = omega arith
-small-renewal renewal.Invariant = omega arith
 small-renewal (renewal.UnsoundState n) = omega arith
 
 small-deletion : (a : Deletion) → deletionPaper a .number ≤ 27
@@ -59,7 +58,6 @@ unfolding deletionPaper
 small-deletion deletion.Done = omega arith
 small-deletion (deletion.ActiveLockNotFound i) = omega arith
 small-deletion deletion.RevisionOverflow = omega arith
-small-deletion deletion.Invariant = omega arith
 small-deletion (deletion.UnsoundState n) = omega arith
 
 small-expiration : (a : Expiration) → expirationPaper a .number ≤ 27
@@ -68,7 +66,6 @@ small-expiration expiration.Done = omega arith
 small-expiration expiration.Stale = omega arith
 small-expiration (expiration.NotDue t) = omega arith
 small-expiration expiration.RevisionOverflow = omega arith
-small-expiration expiration.Invariant = omega arith
 small-expiration (expiration.UnsoundState n) = omega arith
 
 small-acknowledgement : (a : Acknowledgement) → acknowledgementPaper a .number ≤ 27
@@ -76,14 +73,12 @@ unfolding acknowledgementPaper
 small-acknowledgement acknowledgement.Done = omega arith
 small-acknowledgement acknowledgement.Absent = omega arith
 small-acknowledgement acknowledgement.RevisionOverflow = omega arith
-small-acknowledgement acknowledgement.Invariant = omega arith
 small-acknowledgement (acknowledgement.UnsoundState n) = omega arith
 
 small-expiry : (a : DefunctExpiry) → expiryPaper a .number ≤ 27
 unfolding expiryPaper
 small-expiry expiry.Done = omega arith
 small-expiry expiry.RevisionOverflow = omega arith
-small-expiry expiry.Invariant = omega arith
 small-expiry (expiry.UnsoundState n) = omega arith
 
 small-outcome : (o : Outcome) → outcomePaper o .number ≤ 27

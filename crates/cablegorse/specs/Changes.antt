@@ -121,7 +121,6 @@ unfoldable pub isGone : Dropping → Bool
 isGone dropping.Done = true
 isGone dropping.Absent = false
 isGone dropping.RevisionOverflow = true
-isGone dropping.Invariant = false
 isGone (dropping.UnsoundState n) = false
 isGone dropping.Forbidden = false
 

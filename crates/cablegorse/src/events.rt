@@ -52,7 +52,6 @@ fn of_renewal(n: u32, a: Renewal) -> Told
         Renewal::RevisionOverflow => papers::none(n),
         Renewal::LockExpired => papers::none(n),
         Renewal::RenewalNotExtension => papers::none(n),
-        Renewal::Invariant => papers::one(n, 0),
         Renewal::UnsoundState(x) => papers::one(n, x as u64),
     }
 }
@@ -64,7 +63,6 @@ fn of_deletion(n: u32, a: Deletion) -> Told
         Deletion::Done => papers::none(n),
         Deletion::ActiveLockNotFound(i) => papers::two(n, i.hi, i.lo),
         Deletion::RevisionOverflow => papers::none(n),
-        Deletion::Invariant => papers::one(n, 0),
         Deletion::UnsoundState(x) => papers::one(n, x as u64),
     }
 }
@@ -77,7 +75,6 @@ fn of_expiration(n: u32, a: Expiration) -> Told
         Expiration::Stale => papers::one(n, 1),
         Expiration::NotDue(time) => papers::two(n, 2, time),
         Expiration::RevisionOverflow => papers::none(n),
-        Expiration::Invariant => papers::one(n, 0),
         Expiration::UnsoundState(x) => papers::one(n, x as u64),
     }
 }
@@ -89,7 +86,6 @@ fn of_acknowledgement(n: u32, a: Acknowledgement) -> Told
         Acknowledgement::Done => papers::one(n, 1),
         Acknowledgement::Absent => papers::one(n, 0),
         Acknowledgement::RevisionOverflow => papers::none(n),
-        Acknowledgement::Invariant => papers::one(n, 0),
         Acknowledgement::UnsoundState(x) => papers::one(n, x as u64),
     }
 }
@@ -100,7 +96,6 @@ fn of_expiry(n: u32, a: DefunctExpiry) -> Told
     match a {
         DefunctExpiry::Done => papers::none(n),
         DefunctExpiry::RevisionOverflow => papers::none(n),
-        DefunctExpiry::Invariant => papers::one(n, 0),
         DefunctExpiry::UnsoundState(x) => papers::one(n, x as u64),
     }
 }

@@ -152,7 +152,6 @@ pub(crate) fn of_dropping(d: Dropping) -> Told
         Dropping::Done => one(0, 1),
         Dropping::Absent => one(0, 0),
         Dropping::RevisionOverflow => none(8),
-        Dropping::Invariant => one(11, 0),
         Dropping::UnsoundState(n) => one(12, n as u64),
         Dropping::Forbidden => none(26),
     }
@@ -166,7 +165,6 @@ pub(crate) fn is_gone(d: Dropping) -> bool
         Dropping::Done => true,
         Dropping::Absent => false,
         Dropping::RevisionOverflow => true,
-        Dropping::Invariant => false,
         Dropping::UnsoundState(_) => false,
         Dropping::Forbidden => false,
     }

@@ -22,7 +22,7 @@ use Rattle.records.proofs.Layouts.{fields-fit}
 use Rattle.records.proofs.Codecs.{Lawful, passed}
 use Rattle.records.proofs.Wire.{active-lawful}
 use Rattle.records.proofs.Feeds.{number-lawful, numbered-lawful, counted-lawful, target-lawful, renewal-lawful, expiration-lawful, replacement-lawful}
-use Rattle.takeover.proofs.Keeping.{opOf}
+use Rattle.promises.specs.Results.{opOf}
 use Rattle.doors.proofs.Fits.{FitA, fit-split}
 use Rattle.doors.proofs.Ranged.{Brought}
 

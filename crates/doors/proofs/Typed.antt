@@ -50,7 +50,8 @@ use Rattle.image.proofs.Trips.{mem-take, Accepted, accepted}
 use Rattle.feed.specs.declared.events.Step.{Step}
 use Rattle.feed.specs.Feed.{after, Numbered, numbered, bodyIn, takenAsked, takenFramed, takenAt, actOn, turnOn, takenOn, stepOn}
 use Rattle.feed.proofs.Turning.{turn-comes, step-sound}
-use Rattle.takeover.proofs.Keeping.{opOf, perform-state}
+use Rattle.promises.specs.Results.{opOf}
+use Rattle.takeover.proofs.Keeping.{perform-state}
 use Rattle.doors.proofs.Fits.{FitA, FitD, fit-blank, fit-blankD}
 use Rattle.doors.proofs.Ranged.{Ranged, Brought, step-ranged}
 use Rattle.doors.proofs.Asking.{decoded-fit, request-brings}

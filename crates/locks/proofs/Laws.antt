@@ -190,7 +190,7 @@ module _ (s : LockState) (i : LockId) (k : ScopeKey) (subject : ℕ) where
 
   -- the code tells the other answers by their tags
   abbrev Refused : Dropping → Type 0
-  Refused a = OneOf (1 ∷ 2 ∷ 3 ∷ 4 ∷ 5 ∷ []) (tagOf the-type a)
+  Refused a = OneOf (1 ∷ 2 ∷ 3 ∷ 4 ∷ []) (tagOf the-type a)
 
   found-kept : (o : Option DefunctLock) → Refused (judgeDrop k subject o) → dropFoundOn s i k subject o ≡ dropped (judgeDrop k subject o) s
   unfolding dropFoundOn judgeEntry
@@ -198,7 +198,7 @@ module _ (s : LockState) (i : LockId) (k : ScopeKey) (subject : ℕ) where
   found-kept (some d) z = go (sameScope (d .lock .scope) k) (eqb (d .lock .subject) subject) z
     where
       go : (b c : Bool) → Refused (cond b (cond c dropping.Done dropping.Forbidden) dropping.Absent) → cond b (cond c (asDropped (acknowledgeOn s i)) (dropped dropping.Forbidden s)) (dropped dropping.Absent s) ≡ dropped (cond b (cond c dropping.Done dropping.Forbidden) dropping.Absent) s
-      go true true z = absurd (miss (1 ∷ 2 ∷ 3 ∷ 4 ∷ 5 ∷ []) 0 tt z)
+      go true true z = absurd (miss (1 ∷ 2 ∷ 3 ∷ 4 ∷ []) 0 tt z)
       go true false z = refl
       go false c z = refl
 

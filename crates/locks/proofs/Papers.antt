@@ -41,7 +41,7 @@ update-one = one-to-one updatePaper updateOf update-back
 droppingOf : Paper → Dropping
 droppingOf p =
     pick (p .number)
-    ((8, dropping.RevisionOverflow) ∷ (11, dropping.Invariant) ∷ (12, dropping.UnsoundState (valueAt p 0)) ∷ (26, dropping.Forbidden) ∷ [])
+    ((8, dropping.RevisionOverflow) ∷ (12, dropping.UnsoundState (valueAt p 0)) ∷ (26, dropping.Forbidden) ∷ [])
     (pick (valueAt p 0) ((0, dropping.Absent) ∷ []) dropping.Done)
 
 dropping-back : (a : Dropping) → droppingOf (droppingPaper a) ≡ a
@@ -49,7 +49,6 @@ unfolding droppingOf droppingPaper
 dropping-back dropping.Done = refl
 dropping-back dropping.Absent = refl
 dropping-back dropping.RevisionOverflow = refl
-dropping-back dropping.Invariant = refl
 dropping-back (dropping.UnsoundState n) = refl
 dropping-back dropping.Forbidden = refl
 

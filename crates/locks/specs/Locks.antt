@@ -96,7 +96,6 @@ abbrev pub asDropping : Acknowledgement → Dropping
 asDropping acknowledgement.Done = dropping.Done
 asDropping acknowledgement.Absent = dropping.Absent
 asDropping acknowledgement.RevisionOverflow = dropping.RevisionOverflow
-asDropping acknowledgement.Invariant = dropping.Invariant
 asDropping (acknowledgement.UnsoundState n) = dropping.UnsoundState n
 
 abbrev pub asDropped : Acknowledged → Dropped
@@ -119,6 +118,5 @@ unfoldable pub droppingPaper : Dropping → Paper
 droppingPaper dropping.Done = paper 0 (1 ∷ [])
 droppingPaper dropping.Absent = paper 0 (0 ∷ [])
 droppingPaper dropping.RevisionOverflow = paper 8 []
-droppingPaper dropping.Invariant = paper 11 (0 ∷ [])
 droppingPaper (dropping.UnsoundState n) = paper 12 (n ∷ [])
 droppingPaper dropping.Forbidden = paper 26 []

@@ -47,7 +47,6 @@ pub enum Dropping {
     Done,
     Absent,
     RevisionOverflow,
-    Invariant,
     UnsoundState(u8),
     Forbidden,
 }
@@ -193,7 +192,6 @@ fn as_dropping(a: Acknowledgement) -> Dropping
         Acknowledgement::Done => Dropping::Done,
         Acknowledgement::Absent => Dropping::Absent,
         Acknowledgement::RevisionOverflow => Dropping::RevisionOverflow,
-        Acknowledgement::Invariant => Dropping::Invariant,
         Acknowledgement::UnsoundState(n) => Dropping::UnsoundState(n),
     }
 }

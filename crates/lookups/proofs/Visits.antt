@@ -1,29 +1,27 @@
--- The holder's walk as the code does it: from place to place, with a record of the places visited. On a sound state each
--- entry visited has more entries ahead of it than the id now looked at (rule 9), so that the record never stops the walk.
+-- The holder's walk as the code does it: from place to place. On a sound state each entry has one entry more ahead of it than
+-- the id that it leads to (rule 9), so the walk ends, and passes 128 entries at most.
 -- Assumes nothing.
 use mathlib.Core.Path.{_≡_, sym, ap, _∙_}
-use mathlib.Core.Bool.{Bool, true, false, false≢true}
 use mathlib.Core.List.{List}
 use mathlib.Core.Option.{Option, none, some}
 use mathlib.Core.Logic.{inl, inr}
 use Prim.Native.Nat.{ℕ, suc, _+_, _≤_, _<_}
 use native.Mathlib.Numerals.{add-one}
-use native.Mathlib.Decide.{ℕ-discrete}
 use native.Mathlib.Omega.{arith}
 use borrow.Author.Tests.{eqb-true}
 use lib.Dec.{eqb}
-use lib.ListN.{length, getD, set, take, replicate, length-set, length-replicate, getD-replicate}
-use lib.Seq.{getD-take, getD-set-other, length-take-le}
+use lib.ListN.{length, getD, take}
+use lib.Seq.{getD-take, length-take-le}
 use Rattle.lists.specs.Tests.{Yes}
 use Rattle.lists.specs.Lists.{find, ascending}
-use Rattle.lists.proofs.Lists.{find→, find-key, find-miss}
+use Rattle.lists.proofs.Lists.{find-key, find-miss}
 use Rattle.lists.proofs.Places.{mem-at, at-mem}
 use Rattle.ids.specs.declared.LockId.{LockId}
 use Rattle.ids.specs.Order.{key}
 use Rattle.state.specs.declared.ActiveLock.{ActiveLock}
 use Rattle.state.specs.declared.DefunctLock.{DefunctLock}
 use Rattle.state.specs.declared.LockState.{LockState}
-use Rattle.state.specs.Locks.{dkey, blankDefunct}
+use Rattle.state.specs.Locks.{blankDefunct}
 use Rattle.state.specs.Model.{modelOf}
 use Rattle.rules.specs.declared.Verdict.the-variants.{Sound}
 use Rattle.rules.specs.Rules.{findA, findD, brokenRule}
@@ -56,11 +54,9 @@ module _ {A : Type 0} (f : A → LockId) (b : A) (l : List A) (n : ℕ) (hi lo :
       z .1 (u .0) i (at-place (u .0) i ∙ ap (λ (x : A). key (f x)) (u .2) ∙ eqb-true (key (f a)) k t))
 
 -- ---- along the walk: i and h the target and holder of the record asked for
-pub record Along (s : LockState) (i : LockId) (h : ℕ) (visited : List Bool) (id : LockId) (holder links : ℕ) : Type 0 where
-  pub long : length visited ≡ 128
+pub record Along (s : LockState) (i : LockId) (h : ℕ) (id : LockId) (holder links : ℕ) : Type 0 where
   pub room : links + ahead (modelOf s .defunct) (key id) ≤ 128
   pub same : walk (suc (ahead (modelOf s .defunct) (key id))) (modelOf s) (key id) holder links ≡ walk (suc (length (modelOf s .defunct))) (modelOf s) (key i) h 0
-  pub past : (j : ℕ) → j < s .defuncts → getD visited j false ≡ true → ahead (modelOf s .defunct) (key id) < ahead (modelOf s .defunct) (dkey (getD (s .defunct) j blankDefunct))
 
 module _ (s : LockState) (e : brokenRule s ≡ Sound) (i : LockId) (h : ℕ) where
   abbrev entries : List DefunctLock
@@ -69,17 +65,15 @@ module _ (s : LockState) (e : brokenRule s ≡ Sound) (i : LockId) (h : ℕ) whe
   ends : (k : ℕ) → Ends entries k
   ends k = ends-anywhere (modelOf s) (facts-of-state s e .nine) k
 
-  pub starts : s .defuncts ≤ length (s .defunct) → Along s i h (replicate 128 false) i h 0
+  pub starts : s .defuncts ≤ length (s .defunct) → Along s i h i h 0
   starts g =
       let q = ahead-le entries (key i) in
       record {
-        long = length-replicate 128 false;
         room = omega (arith, length-take-le (s .defuncts) (s .defunct) g, defuncts-fit s e);
         same = enough (modelOf s) (ends (key i)) (ahead entries (key i)) (length entries) (omega arith) q h 0;
-        past = λ j l t. absurd (false≢true (sym (getD-replicate 128 j false false (omega (arith, defuncts-fit s e))) ∙ t));
       }
 
-  module _ (visited : List Bool) (id : LockId) (holder links : ℕ) (v : Along s i h visited id holder links) where
+  module _ (id : LockId) (holder links : ℕ) (v : Along s i h id holder links) where
     pub ends-held : (a : ActiveLock) → findA (modelOf s .active) (key id) ≡ some a → held (a .lock .subject) links ≡ walk (suc (length entries)) (modelOf s) (key i) h 0
     ends-held a f = sym (walk-held (modelOf s) (ahead entries (key id)) (key id) holder links a f) ∙ v .same
 
@@ -87,19 +81,12 @@ module _ (s : LockState) (e : brokenRule s ≡ Sound) (i : LockId) (h : ℕ) whe
       pub ends-out : findD entries (key id) ≡ none → held holder links ≡ walk (suc (length entries)) (modelOf s) (key i) h 0
       ends-out g = sym (walk-out (modelOf s) (ahead entries (key id)) (key id) holder links f g) ∙ v .same
 
-      module _ (q : ℕ) (l : q < s .defuncts) (g : findD entries (key id) ≡ some (getD (s .defunct) q blankDefunct)) where
+      module _ (q : ℕ) (g : findD entries (key id) ≡ some (getD (s .defunct) q blankDefunct)) where
         abbrev entry-at : DefunctLock
         entry-at = getD (s .defunct) q blankDefunct
 
-        its-key : dkey entry-at ≡ key id
-        its-key = eqb-true (dkey entry-at) (key id) (find→ (λ x. eqb (dkey x) (key id)) entries g .1)
-
         one-on : ahead entries (key id) ≡ suc (ahead entries (key (entry-at .target)))
         one-on = ahead-on entries (key id) (ends (key id)) entry-at g
-
-        -- the record never stops the walk
-        pub not-visited : getD visited q false ≡ true → ⊥
-        not-visited t = omega (arith, v .past q l t, ap (ahead entries) its-key)
 
         pub link-fits : links + 1 ≤ 128
         link-fits = omega (arith, v .room, one-on)
@@ -107,16 +94,8 @@ module _ (s : LockState) (e : brokenRule s ≡ Sound) (i : LockId) (h : ℕ) whe
         pub fewer : ahead entries (key (entry-at .target)) < ahead entries (key id)
         fewer = omega (arith, one-on)
 
-        pub turns : Along s i h (set visited q true) (entry-at .target) (entry-at .holder) (links + 1)
+        pub turns : Along s i h (entry-at .target) (entry-at .holder) (links + 1)
         turns = record {
-          long = length-set visited q true ∙ v .long;
           room = omega (arith, v .room, one-on);
           same = rw (add-one links) (sym (walk-on (modelOf s) (suc (ahead entries (key (entry-at .target)))) (key id) holder links entry-at f g) ∙ ap (λ (n : ℕ). walk (suc n) (modelOf s) (key id) holder links) (sym one-on) ∙ v .same);
-          past = later;
         }
-          where
-            later : (j : ℕ) → j < s .defuncts → getD (set visited q true) j false ≡ true → ahead entries (key (entry-at .target)) < ahead entries (dkey (getD (s .defunct) j blankDefunct))
-            later j b t = elim (ℕ-discrete j q) [
-              | yes z ↦ rw (z, its-key) fewer
-              | no z ↦ omega (arith, fewer, v .past j b (sym (getD-set-other visited q j true false z) ∙ t))
-            ]

@@ -72,7 +72,7 @@ fn place<'a>(hi: &'a [u64], lo: &'a [u64], n: usize, id: LockId) -> usize
     n
 }
 
-// As the original, it keeps a record of what it visited; on a sound state that never stops it (rule 9).
+// The original keeps a record of the ids that it visited; on a sound state no id comes twice (rule 9), so there is none here.
 pub(crate) fn walk(s: LockState, d: DefunctLock) -> Holder
     requires { ⌜ brokenRule s ≡ Sound ⌝ }
     ensures { λ r. ⌜ r ≡ toldHeld (holderOf (modelOf s) d) ⌝ }
@@ -83,7 +83,6 @@ pub(crate) fn walk(s: LockState, d: DefunctLock) -> Holder
     let a = active_ids(l, n);
     let t = s.defunct;
     let e = defunct_ids(t, m);
-    let mut visited = [false; LockState::DEFUNCT];
     let mut id = d.target;
     let mut holder = d.holder;
     let mut links: u64 = 0;
@@ -100,10 +99,6 @@ pub(crate) fn walk(s: LockState, d: DefunctLock) -> Holder
         if m <= q {
             break;
         }
-        if visited[q] {
-            break;
-        }
-        visited[q] = true;
         let y = s.defunct[q];
         id = y.target;
         holder = y.holder;

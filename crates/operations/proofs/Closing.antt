@@ -1,5 +1,5 @@
--- The closing check, as the original's validate_invariants: the arm that the test of the next state takes, and that it is
--- the test of the next lists. Said once.
+-- The closing check of insertions and replacement, as the original's validate_invariants: the arm that the test of the next
+-- state takes, and that it is the test of the next lists. Said once.
 -- Assumes nothing.
 use mathlib.Core.Bool.{true, cond, false≢true}
 use mathlib.Core.Path.{_≡_, refl, sym, ap, _∙_}

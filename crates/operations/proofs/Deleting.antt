@@ -14,9 +14,8 @@ use Rattle.state.specs.declared.LockState.{LockState}
 use Rattle.state.specs.Locks.{hasId}
 use Rattle.state.specs.Model.{Model, modelOf, stateOf, Tidy}
 use Rattle.state.proofs.Laws.{defunct-count, defunct-in}
-use Rattle.rules.specs.declared.Verdict.{Verdict}
-use Rattle.rules.specs.declared.Verdict.the-variants.{Sound, Broken}
-use Rattle.rules.specs.Rules.{brokenRule, isSound}
+use Rattle.rules.specs.declared.Verdict.the-variants.{Sound}
+use Rattle.rules.specs.Rules.{brokenRule}
 use Rattle.lookups.specs.Reads.{onSound}
 use Rattle.lookups.proofs.Verdicts.{on-sound}
 use Rattle.operations.specs.declared.answers.Deletion.{Deletion}
@@ -29,8 +28,7 @@ use Rattle.operations.specs.declared.trees.Split.{Split}
 use Rattle.operations.specs.Trees.{Parts, startParts, treeParts}
 use Rattle.operations.specs.Checks.{atLast}
 use Rattle.operations.specs.Code.{splitOf}
-use Rattle.operations.specs.Delete.{treeOut, withoutTree, deleted, closedDelete, deleteFound, deleteOn, expired, asExpired, expireFound, beginExpirationOn}
-use Rattle.operations.proofs.Closing.{closed-sound, closed-broken}
+use Rattle.operations.specs.Delete.{withoutTree, deleted, deleteFound, deleteOn, expired, asExpired, expireFound, beginExpirationOn}
 
 -- ---- the tree of r out
 module _ (s : LockState) (t : Tidy s) where
@@ -53,17 +51,9 @@ module _ (s : LockState) (t : Tidy s) where
           number : s .defuncts ≡ length (modelOf s .defunct)
           number = sym (defunct-count s t)
 
-      closing : closedDelete s (treeOut (modelOf s) r .gone) next ≡ deleteFound s i (some r)
+      pub done : record { told = record { answer = deletion.Done; gone = x .gone; removed = x .removed }; state = next } ≡ deleteFound s i (some r)
       unfolding deleteFound atLast
-      closing = rw (made, e)
-
-      pub done : (v : Verdict) → v ≡ brokenRule next → v ≡ Sound → record { told = record { answer = deletion.Done; gone = x .gone; removed = x .removed }; state = next } ≡ deleteFound s i (some r)
-      unfolding closedDelete
-      done v q w = ap (λ (y : Split). record { told = record { answer = deletion.Done; gone = y .gone; removed = y .removed }; state = next }) f ∙ sym (closed-sound next _ _ v q w) ∙ closing
-
-      pub undone : (v : Verdict) → v ≡ brokenRule next → (n : ℕ) → v ≡ Broken n → deleted deletion.Invariant [] s ≡ deleteFound s i (some r)
-      unfolding closedDelete
-      undone v q n w = sym (closed-broken next _ _ v q n w) ∙ closing
+      done = ap (λ (y : Split). record { told = record { answer = deletion.Done; gone = y .gone; removed = y .removed }; state = next }) f ∙ rw (made, e)
 
 -- ---- by what was found of the id i
 module _ (s : LockState) (i : LockId) (w : brokenRule s ≡ Sound) where

@@ -70,7 +70,6 @@ renewalOf p =
     ∷ (8, renewal.RevisionOverflow)
     ∷ (9, renewal.LockExpired)
     ∷ (10, renewal.RenewalNotExtension)
-    ∷ (11, renewal.Invariant)
     ∷ (12, renewal.UnsoundState (valueAt p 0))
     ∷ [])
     renewal.Done
@@ -82,7 +81,6 @@ renewal-back (renewal.ActiveLockNotFound i) = refl
 renewal-back renewal.RevisionOverflow = refl
 renewal-back renewal.LockExpired = refl
 renewal-back renewal.RenewalNotExtension = refl
-renewal-back renewal.Invariant = refl
 renewal-back (renewal.UnsoundState n) = refl
 
 pub renewal-one : (a b : Renewal) → renewalPaper a ≡ renewalPaper b → a ≡ b
@@ -92,7 +90,7 @@ renewal-one = one-to-one renewalPaper renewalOf renewal-back
 deletionOf : Paper → Deletion
 deletionOf p =
     pick (p .number)
-    ((3, deletion.ActiveLockNotFound (idAt p 0)) ∷ (8, deletion.RevisionOverflow) ∷ (11, deletion.Invariant) ∷ (12, deletion.UnsoundState (valueAt p 0)) ∷ [])
+    ((3, deletion.ActiveLockNotFound (idAt p 0)) ∷ (8, deletion.RevisionOverflow) ∷ (12, deletion.UnsoundState (valueAt p 0)) ∷ [])
     deletion.Done
 
 deletion-back : (a : Deletion) → deletionOf (deletionPaper a) ≡ a
@@ -100,7 +98,6 @@ unfolding deletionOf deletionPaper
 deletion-back deletion.Done = refl
 deletion-back (deletion.ActiveLockNotFound i) = refl
 deletion-back deletion.RevisionOverflow = refl
-deletion-back deletion.Invariant = refl
 deletion-back (deletion.UnsoundState n) = refl
 
 pub deletion-one : (a b : Deletion) → deletionPaper a ≡ deletionPaper b → a ≡ b
@@ -110,7 +107,7 @@ deletion-one = one-to-one deletionPaper deletionOf deletion-back
 expirationOf : Paper → Expiration
 expirationOf p =
     pick (p .number)
-    ((8, expiration.RevisionOverflow) ∷ (11, expiration.Invariant) ∷ (12, expiration.UnsoundState (valueAt p 0)) ∷ [])
+    ((8, expiration.RevisionOverflow) ∷ (12, expiration.UnsoundState (valueAt p 0)) ∷ [])
     (pick (valueAt p 0) ((1, expiration.Stale) ∷ (2, expiration.NotDue (valueAt p 1)) ∷ []) expiration.Done)
 
 expiration-back : (a : Expiration) → expirationOf (expirationPaper a) ≡ a
@@ -119,7 +116,6 @@ expiration-back expiration.Done = refl
 expiration-back expiration.Stale = refl
 expiration-back (expiration.NotDue t) = refl
 expiration-back expiration.RevisionOverflow = refl
-expiration-back expiration.Invariant = refl
 expiration-back (expiration.UnsoundState n) = refl
 
 pub expiration-one : (a b : Expiration) → expirationPaper a ≡ expirationPaper b → a ≡ b
@@ -129,7 +125,7 @@ expiration-one = one-to-one expirationPaper expirationOf expiration-back
 acknowledgementOf : Paper → Acknowledgement
 acknowledgementOf p =
     pick (p .number)
-    ((8, acknowledgement.RevisionOverflow) ∷ (11, acknowledgement.Invariant) ∷ (12, acknowledgement.UnsoundState (valueAt p 0)) ∷ [])
+    ((8, acknowledgement.RevisionOverflow) ∷ (12, acknowledgement.UnsoundState (valueAt p 0)) ∷ [])
     (pick (valueAt p 0) ((0, acknowledgement.Absent) ∷ []) acknowledgement.Done)
 
 acknowledgement-back : (a : Acknowledgement) → acknowledgementOf (acknowledgementPaper a) ≡ a
@@ -137,7 +133,6 @@ unfolding acknowledgementOf acknowledgementPaper
 acknowledgement-back acknowledgement.Done = refl
 acknowledgement-back acknowledgement.Absent = refl
 acknowledgement-back acknowledgement.RevisionOverflow = refl
-acknowledgement-back acknowledgement.Invariant = refl
 acknowledgement-back (acknowledgement.UnsoundState n) = refl
 
 pub acknowledgement-one : (a b : Acknowledgement) → acknowledgementPaper a ≡ acknowledgementPaper b → a ≡ b
@@ -145,13 +140,12 @@ acknowledgement-one = one-to-one acknowledgementPaper acknowledgementOf acknowle
 
 -- ---- expiry of defunct entries
 expiryOf : Paper → DefunctExpiry
-expiryOf p = pick (p .number) ((8, expiry.RevisionOverflow) ∷ (11, expiry.Invariant) ∷ (12, expiry.UnsoundState (valueAt p 0)) ∷ []) expiry.Done
+expiryOf p = pick (p .number) ((8, expiry.RevisionOverflow) ∷ (12, expiry.UnsoundState (valueAt p 0)) ∷ []) expiry.Done
 
 expiry-back : (a : DefunctExpiry) → expiryOf (expiryPaper a) ≡ a
 unfolding expiryOf expiryPaper
 expiry-back expiry.Done = refl
 expiry-back expiry.RevisionOverflow = refl
-expiry-back expiry.Invariant = refl
 expiry-back (expiry.UnsoundState n) = refl
 
 pub expiry-one : (a b : DefunctExpiry) → expiryPaper a ≡ expiryPaper b → a ≡ b

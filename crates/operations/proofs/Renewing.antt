@@ -27,23 +27,22 @@ use Rattle.rules.specs.Rules.{brokenRule}
 use Rattle.lookups.proofs.Verdicts.{on-sound}
 use Rattle.operations.proofs.Finding.{active-at, found-none, found-lock}
 use Rattle.operations.specs.declared.answers.Renewal.{Renewal}
-use Rattle.operations.specs.declared.answers.Renewal.the-variants.{Done, ActiveLockNotFound, RevisionOverflow, LockExpired, RenewalNotExtension, Invariant, UnsoundState}
+use Rattle.operations.specs.declared.answers.Renewal.the-variants.{Done, ActiveLockNotFound, RevisionOverflow, LockExpired, RenewalNotExtension, UnsoundState}
 use Rattle.operations.specs.declared.answers.Renewed.{Renewed}
 use Rattle.operations.proofs.answers.Renewal.{the-type}
 use Rattle.operations.specs.Answers.{refuseIf}
 use Rattle.operations.specs.Checks.{atLast}
 use Rattle.operations.specs.Code.{placeIn}
-use Rattle.operations.specs.Renew.{extended, extendAt, renewedIn, judgeLock, judgeFound, judgeRenew, renewed, closedRenew, settledRenew, renewOn}
+use Rattle.operations.specs.Renew.{extended, extendAt, renewedIn, judgeLock, judgeFound, judgeRenew, renewed, settledRenew, renewOn}
 
 -- ---- the judge's answer
 -- every answer but Done keeps the state; the code tells them by their tags
-pub kept : (a : Renewal) → OneOf (1 ∷ 2 ∷ 3 ∷ 4 ∷ 5 ∷ 6 ∷ []) (tagOf the-type a) → (s : LockState) (m : Model) → settledRenew a s m ≡ renewed a s
-kept Done z s m = absurd (miss (1 ∷ 2 ∷ 3 ∷ 4 ∷ 5 ∷ 6 ∷ []) 0 tt z)
+pub kept : (a : Renewal) → OneOf (1 ∷ 2 ∷ 3 ∷ 4 ∷ 5 ∷ []) (tagOf the-type a) → (s : LockState) (m : Model) → settledRenew a s m ≡ renewed a s
+kept Done z s m = absurd (miss (1 ∷ 2 ∷ 3 ∷ 4 ∷ 5 ∷ []) 0 tt z)
 kept (ActiveLockNotFound i) z s m = refl
 kept RevisionOverflow z s m = refl
 kept LockExpired z s m = refl
 kept RenewalNotExtension z s m = refl
-kept Invariant z s m = refl
 kept (UnsoundState n) z s m = refl
 
 -- Done: the revision can rise
@@ -117,5 +116,5 @@ module _ (s : LockState) (i : LockId) (e now : ℕ) (has : Bool) (d : ℕ) (w : 
         unfolding renewedIn
         made = with-lock s t k h x ∙ ap (λ (l : List ActiveLock). stateOf (record { revision = s .revision + 1; active = l; defunct = modelOf s .defunct })) (sym change)
 
-        pub closing : closedRenew s (withLock s k x) ≡ renewOn s i e now has d
-        closing = ap (closedRenew s) made ∙ settled Done (judged ∙ f)
+        pub done : renewed Done (withLock s k x) ≡ renewOn s i e now has d
+        done = ap (renewed Done) made ∙ settled Done (judged ∙ f)

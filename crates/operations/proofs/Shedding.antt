@@ -18,9 +18,8 @@ use Rattle.state.specs.declared.LockState.{LockState}
 use Rattle.state.specs.Locks.{dkey, hasIdD, blankDefunct}
 use Rattle.state.specs.Model.{Model, modelOf, stateOf, Tidy}
 use Rattle.state.proofs.Laws.{active-count, active-in, defunct-count}
-use Rattle.rules.specs.declared.Verdict.{Verdict}
-use Rattle.rules.specs.declared.Verdict.the-variants.{Sound, Broken}
-use Rattle.rules.specs.Rules.{brokenRule, isSound}
+use Rattle.rules.specs.declared.Verdict.the-variants.{Sound}
+use Rattle.rules.specs.Rules.{brokenRule}
 use Rattle.lookups.proofs.Verdicts.{on-sound}
 use Rattle.operations.specs.declared.answers.Acknowledgement.{Acknowledgement}
 use Rattle.operations.specs.declared.answers.Acknowledgement.the-variants as acknowledgement
@@ -87,22 +86,13 @@ module _ (s n : LockState) where
   unfolding shedBy atLast
   shed-last x h = rw h
 
-  module _ (h : eqb (s .revision) 18446744073709551615 ≡ false) (v : Verdict) (q : v ≡ brokenRule n) where
-    pub told-done : v ≡ Sound → acknowledged acknowledgement.Done n ≡ acknowledgedTo s n
-    unfolding acknowledgedTo toldAcknowledge atLast
-    told-done w = rw (h, ← q, w)
+  pub told-done : eqb (s .revision) 18446744073709551615 ≡ false → acknowledged acknowledgement.Done n ≡ acknowledgedTo s n
+  unfolding acknowledgedTo toldAcknowledge atLast
+  told-done h = rw h
 
-    pub told-broken : (k : ℕ) → v ≡ Broken k → acknowledged acknowledgement.Invariant n ≡ acknowledgedTo s n
-    unfolding acknowledgedTo toldAcknowledge atLast
-    told-broken k w = rw (h, ← q, w)
-
-    pub shed-done : (x : Shed) → v ≡ Sound → record { told = x; state = n } ≡ shedBy s x n
-    unfolding shedBy atLast
-    shed-done x w = rw (h, ← q, w)
-
-    pub shed-broken : (x : Shed) (k : ℕ) → v ≡ Broken k → shed expiry.Invariant [] n ≡ shedBy s x n
-    unfolding shedBy atLast
-    shed-broken x k w = rw (h, ← q, w)
+  pub shed-done : (x : Shed) → eqb (s .revision) 18446744073709551615 ≡ false → record { told = x; state = n } ≡ shedBy s x n
+  unfolding shedBy atLast
+  shed-done x h = rw h
 
 -- ---- by the tests of a sound state
 module _ (s : LockState) (w : brokenRule s ≡ Sound) where

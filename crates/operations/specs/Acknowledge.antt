@@ -13,7 +13,6 @@ use Rattle.state.specs.declared.DefunctLock.{DefunctLock}
 use Rattle.state.specs.declared.LockState.{LockState}
 use Rattle.state.specs.Locks.{hasIdD}
 use Rattle.state.specs.Model.{Model, modelOf, stateOf}
-use Rattle.rules.specs.Rules.{brokenRule, isSound}
 use Rattle.lookups.specs.Reads.{onSound}
 use Rattle.operations.specs.declared.answers.Acknowledgement.{Acknowledgement}
 use Rattle.operations.specs.declared.answers.Acknowledgement.the-variants as acknowledgement
@@ -35,12 +34,12 @@ shedIn m defunct = withDefunct m (cond (atLast (m .revision)) (m .revision) (m .
 abbrev pub acknowledged : Acknowledgement → LockState → Acknowledged
 acknowledged answer state = record { told = answer; state = state }
 
--- the original's closing check comes after the change, which it does not undo
-unfoldable pub toldAcknowledge : LockState → LockState → Acknowledgement
-toldAcknowledge state next = cond (atLast (state .revision)) acknowledgement.RevisionOverflow (cond (isSound (brokenRule next)) acknowledgement.Done acknowledgement.Invariant)
+-- 8 comes after the change, which it does not undo
+unfoldable pub toldAcknowledge : LockState → Acknowledgement
+toldAcknowledge state = cond (atLast (state .revision)) acknowledgement.RevisionOverflow acknowledgement.Done
 
 unfoldable pub acknowledgedTo : LockState → LockState → Acknowledged
-acknowledgedTo state next = acknowledged (toldAcknowledge state next) next
+acknowledgedTo state next = acknowledged (toldAcknowledge state) next
 
 unfoldable pub acknowledgeOn : LockState → LockId → Acknowledged
 acknowledgeOn state id =
@@ -64,7 +63,7 @@ shed answer ids state = record { told = record { answer = answer; gone = length 
 
 -- 8 tells the number only, no list
 unfoldable pub shedTo : LockState → List LockId → LockState → DefunctsExpired
-shedTo state ids next = cond (atLast (state .revision)) (shed expiry.RevisionOverflow [] next) (cond (isSound (brokenRule next)) (shed expiry.Done ids next) (shed expiry.Invariant [] next))
+shedTo state ids next = cond (atLast (state .revision)) (shed expiry.RevisionOverflow [] next) (shed expiry.Done ids next)
 
 unfoldable pub expireDefunctOn : LockState → ℕ → DefunctsExpired
 expireDefunctOn state now =

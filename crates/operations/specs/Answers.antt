@@ -45,14 +45,12 @@ renewalPaper (renewal.ActiveLockNotFound i) = paper 3 (idValues i [])
 renewalPaper renewal.RevisionOverflow = paper 8 []
 renewalPaper renewal.LockExpired = paper 9 []
 renewalPaper renewal.RenewalNotExtension = paper 10 []
-renewalPaper renewal.Invariant = paper 11 (0 ∷ [])
 renewalPaper (renewal.UnsoundState n) = paper 12 (n ∷ [])
 
 unfoldable pub deletionPaper : Deletion → Paper
 deletionPaper deletion.Done = paper 0 []
 deletionPaper (deletion.ActiveLockNotFound i) = paper 3 (idValues i [])
 deletionPaper deletion.RevisionOverflow = paper 8 []
-deletionPaper deletion.Invariant = paper 11 (0 ∷ [])
 deletionPaper (deletion.UnsoundState n) = paper 12 (n ∷ [])
 
 -- Stale and NotDue are no refusals: number 0, told apart by a first value (0 expired, 1 Stale, 2 NotDue and its time)
@@ -61,7 +59,6 @@ expirationPaper expiration.Done = paper 0 (0 ∷ [])
 expirationPaper expiration.Stale = paper 0 (1 ∷ [])
 expirationPaper (expiration.NotDue t) = paper 0 (2 ∷ (t ∷ []))
 expirationPaper expiration.RevisionOverflow = paper 8 []
-expirationPaper expiration.Invariant = paper 11 (0 ∷ [])
 expirationPaper (expiration.UnsoundState n) = paper 12 (n ∷ [])
 
 -- true and false are no refusals: number 0 and a value, 1 or 0
@@ -69,13 +66,11 @@ unfoldable pub acknowledgementPaper : Acknowledgement → Paper
 acknowledgementPaper acknowledgement.Done = paper 0 (1 ∷ [])
 acknowledgementPaper acknowledgement.Absent = paper 0 (0 ∷ [])
 acknowledgementPaper acknowledgement.RevisionOverflow = paper 8 []
-acknowledgementPaper acknowledgement.Invariant = paper 11 (0 ∷ [])
 acknowledgementPaper (acknowledgement.UnsoundState n) = paper 12 (n ∷ [])
 
 unfoldable pub expiryPaper : DefunctExpiry → Paper
 expiryPaper expiry.Done = paper 0 []
 expiryPaper expiry.RevisionOverflow = paper 8 []
-expiryPaper expiry.Invariant = paper 11 (0 ∷ [])
 expiryPaper (expiry.UnsoundState n) = paper 12 (n ∷ [])
 
 -- ---- chains of checks

@@ -245,6 +245,4 @@ abbrev pub expiredTable : ℕ → Table → Table
 expiredTable now t = tableOf (removeAll (filter (lapsed now) (entriesOf t)) (entriesOf t))
 
 unfoldable pub shedBy : LockState → Shed → LockState → DefunctsExpired
-shedBy s x n =
-    cond (atLast (s .revision)) (shed expiry.RevisionOverflow [] n)
-    (cond (isSound (brokenRule n)) (record { told = x; state = n }) (shed expiry.Invariant [] n))
+shedBy s x n = cond (atLast (s .revision)) (shed expiry.RevisionOverflow [] n) (record { told = x; state = n })

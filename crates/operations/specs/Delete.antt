@@ -12,7 +12,6 @@ use Rattle.state.specs.declared.ActiveLock.{ActiveLock}
 use Rattle.state.specs.declared.LockState.{LockState}
 use Rattle.state.specs.Locks.{hasId, blankActive}
 use Rattle.state.specs.Model.{Model, modelOf, stateOf}
-use Rattle.rules.specs.Rules.{brokenRule, isSound}
 use Rattle.lookups.specs.Reads.{onSound}
 use Rattle.operations.specs.declared.answers.Deletion.{Deletion}
 use Rattle.operations.specs.declared.answers.Deletion.the-variants as deletion
@@ -34,15 +33,12 @@ withoutTree m root = record { revision = m .revision + 1; active = treeOut m roo
 abbrev pub deleted : Deletion → List ActiveLock → LockState → Deleted
 deleted answer gone state = record { told = record { answer = answer; gone = length gone; removed = inPlaces 64 blankActive gone }; state = state }
 
-unfoldable pub closedDelete : LockState → List ActiveLock → LockState → Deleted
-closedDelete state gone next = cond (isSound (brokenRule next)) (deleted deletion.Done gone next) (deleted deletion.Invariant [] state)
-
 -- 3 where there is no such lock; 8 at the last revision; else its tree goes
 unfoldable pub deleteFound : LockState → LockId → Option ActiveLock → Deleted
 deleteFound state id none = deleted (deletion.ActiveLockNotFound id) [] state
 deleteFound state id (some root) =
     cond (atLast (state .revision)) (deleted deletion.RevisionOverflow [] state)
-    (closedDelete state (treeOut (modelOf state) root .gone) (stateOf (withoutTree (modelOf state) root)))
+    (deleted deletion.Done (treeOut (modelOf state) root .gone) (stateOf (withoutTree (modelOf state) root)))
 
 unfoldable pub deleteOn : LockState → LockId → Deleted
 deleteOn state id = onSound state (λ rule. deleted (deletion.UnsoundState rule) [] state) (deleteFound state id (find (hasId id) (modelOf state .active)))
@@ -56,7 +52,6 @@ abbrev pub asExpiration : Deletion → Expiration
 asExpiration deletion.Done = expiration.Done
 asExpiration (deletion.ActiveLockNotFound id) = expiration.Stale
 asExpiration deletion.RevisionOverflow = expiration.RevisionOverflow
-asExpiration deletion.Invariant = expiration.Invariant
 asExpiration (deletion.UnsoundState rule) = expiration.UnsoundState rule
 
 abbrev pub asExpired : Deleted → Expired

@@ -10,10 +10,9 @@ use Rattle.state.specs.declared.ActiveLock.{ActiveLock}
 use Rattle.state.specs.declared.LockState.{LockState}
 use Rattle.state.specs.Locks.{hasId, withMetadata}
 use Rattle.state.specs.Model.{Model, modelOf, stateOf}
-use Rattle.rules.specs.Rules.{brokenRule, isSound}
 use Rattle.lookups.specs.Reads.{onSound}
 use Rattle.operations.specs.declared.answers.Renewal.{Renewal}
-use Rattle.operations.specs.declared.answers.Renewal.the-variants.{Done, ActiveLockNotFound, RevisionOverflow, LockExpired, RenewalNotExtension, Invariant, UnsoundState}
+use Rattle.operations.specs.declared.answers.Renewal.the-variants.{Done, ActiveLockNotFound, RevisionOverflow, LockExpired, RenewalNotExtension, UnsoundState}
 use Rattle.operations.specs.declared.answers.Renewed.{Renewed}
 use Rattle.operations.specs.Answers.{refuseIf}
 use Rattle.operations.specs.Checks.{atLast}
@@ -55,16 +54,12 @@ judgeRenew m id expires now = judgeFound m id expires now (find (hasId id) (m .a
 abbrev pub renewed : Renewal → LockState → Renewed
 renewed answer state = record { told = answer; state = state }
 
-unfoldable pub closedRenew : LockState → LockState → Renewed
-closedRenew state next = cond (isSound (brokenRule next)) (renewed Done next) (renewed Invariant state)
-
 abbrev pub settledRenew : Renewal → LockState → Model → Renewed
-settledRenew Done state next = closedRenew state (stateOf next)
+settledRenew Done state next = renewed Done (stateOf next)
 settledRenew (ActiveLockNotFound id) state next = renewed (ActiveLockNotFound id) state
 settledRenew RevisionOverflow state next = renewed RevisionOverflow state
 settledRenew LockExpired state next = renewed LockExpired state
 settledRenew RenewalNotExtension state next = renewed RenewalNotExtension state
-settledRenew Invariant state next = renewed Invariant state
 settledRenew (UnsoundState rule) state next = renewed (UnsoundState rule) state
 
 unfoldable pub renewOn : LockState → LockId → ℕ → ℕ → Bool → ℕ → Renewed

@@ -38,7 +38,7 @@ fn with_entries(s: LockState, table: Table) -> LockState
 }
 
 // ---- acknowledge_defunct
-// The original's closing check comes after the change, which it does not undo.
+// 8 comes after the change, which it does not undo.
 fn settle(s: LockState, next: LockState) -> Acknowledged
     ensures { λ r. ⌜ r ≡ acknowledgedTo s next ⌝ }
 {
@@ -48,16 +48,9 @@ fn settle(s: LockState, next: LockState) -> Acknowledged
             state: next,
         };
     }
-    let v = rules::broken(next);
-    match v {
-        Verdict::Sound => Acknowledged {
-            told: Acknowledgement::Done,
-            state: next,
-        },
-        Verdict::Broken(_) => Acknowledged {
-            told: Acknowledgement::Invariant,
-            state: next,
-        },
+    Acknowledged {
+        told: Acknowledgement::Done,
+        state: next,
     }
 }
 
@@ -152,11 +145,7 @@ fn settle_shed(s: LockState, told: Shed, next: LockState) -> DefunctsExpired
     if s.revision == u64::MAX {
         return none_shed(DefunctExpiry::RevisionOverflow, next);
     }
-    let v = rules::broken(next);
-    match v {
-        Verdict::Sound => DefunctsExpired { told, state: next },
-        Verdict::Broken(_) => none_shed(DefunctExpiry::Invariant, next),
-    }
+    DefunctsExpired { told, state: next }
 }
 
 // The entries whose original_expires_at has come go; their ids are listed.

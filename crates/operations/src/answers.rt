@@ -34,7 +34,6 @@ pub enum Renewal {
     RevisionOverflow,
     LockExpired,
     RenewalNotExtension,
-    Invariant,
     UnsoundState(u8),
 }
 
@@ -42,7 +41,6 @@ pub enum Deletion {
     Done,
     ActiveLockNotFound(LockId),
     RevisionOverflow,
-    Invariant,
     UnsoundState(u8),
 }
 
@@ -51,7 +49,6 @@ pub enum Expiration {
     Stale,
     NotDue(u64),
     RevisionOverflow,
-    Invariant,
     UnsoundState(u8),
 }
 
@@ -60,14 +57,12 @@ pub enum Acknowledgement {
     Done,
     Absent,
     RevisionOverflow,
-    Invariant,
     UnsoundState(u8),
 }
 
 pub enum DefunctExpiry {
     Done,
     RevisionOverflow,
-    Invariant,
     UnsoundState(u8),
 }
 

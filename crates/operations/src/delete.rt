@@ -47,10 +47,6 @@ fn remove(s: LockState, r: ActiveLock) -> Deleted
     next.revision = s.revision + 1;
     next.active = left;
     next.actives = cut.left;
-    let v = rules::broken(next);
-    if let Verdict::Broken(_) = v {
-        return kept(Deletion::Invariant, s);
-    }
     let removed = cut.removed;
     Deleted {
         told: Removal {
@@ -99,7 +95,6 @@ fn as_expiration(a: Deletion) -> Expiration
         Deletion::Done => Expiration::Done,
         Deletion::ActiveLockNotFound(_) => Expiration::Stale,
         Deletion::RevisionOverflow => Expiration::RevisionOverflow,
-        Deletion::Invariant => Expiration::Invariant,
         Deletion::UnsoundState(n) => Expiration::UnsoundState(n),
     }
 }

@@ -42,7 +42,6 @@ pub fn of_renewal(a: Renewal) -> u64
         Renewal::RevisionOverflow => 8,
         Renewal::LockExpired => 9,
         Renewal::RenewalNotExtension => 10,
-        Renewal::Invariant => 11,
         Renewal::UnsoundState(_) => 12,
     }
 }
@@ -54,7 +53,6 @@ pub fn of_deletion(a: Deletion) -> u64
         Deletion::Done => 0,
         Deletion::ActiveLockNotFound(_) => 3,
         Deletion::RevisionOverflow => 8,
-        Deletion::Invariant => 11,
         Deletion::UnsoundState(_) => 12,
     }
 }
@@ -67,7 +65,6 @@ pub fn of_expiration(a: Expiration) -> u64
         Expiration::Stale => 0,
         Expiration::NotDue(_) => 0,
         Expiration::RevisionOverflow => 8,
-        Expiration::Invariant => 11,
         Expiration::UnsoundState(_) => 12,
     }
 }
@@ -79,7 +76,6 @@ pub fn of_acknowledgement(a: Acknowledgement) -> u64
         Acknowledgement::Done => 0,
         Acknowledgement::Absent => 0,
         Acknowledgement::RevisionOverflow => 8,
-        Acknowledgement::Invariant => 11,
         Acknowledgement::UnsoundState(_) => 12,
     }
 }
@@ -90,7 +86,6 @@ pub fn of_expiry(a: DefunctExpiry) -> u64
     match a {
         DefunctExpiry::Done => 0,
         DefunctExpiry::RevisionOverflow => 8,
-        DefunctExpiry::Invariant => 11,
         DefunctExpiry::UnsoundState(_) => 12,
     }
 }

@@ -1,12 +1,14 @@
--- The closing check never fires: in a sound state every operation's next state is sound again. So each operation comes to
--- a refusal that leaves the state, or to exactly the done result. A property of both is one of the operation.
+-- In a sound state every operation's next state is sound again: insertions and replacement end with a check of it, which
+-- never fires; the five others make none. So each operation comes to a refusal that leaves the state, or to exactly the done
+-- result. A property of both is one of the operation.
+--     ..-exactly   on a sound state: the judgement's answer, the removed locks and the next state
 -- Assumes nothing.
-use mathlib.Core.Path.{_≡_, refl, sym, ap, _∙_}
+use mathlib.Core.Path.{_≡_, refl, sym, _∙_}
 use mathlib.Core.Bool.{Bool, true, false, cond}
 use mathlib.Core.List.{List, []}
 use mathlib.Core.Option.{Option, none, some}
 use Prim.Native.Nat.{ℕ}
-use lib.Dec.{leb, ltb, eqb}
+use lib.Dec.{ltb, eqb}
 use Rattle.lists.specs.Tests.{non, Yes, No}
 use Rattle.lists.specs.Lists.{any, find}
 use Rattle.lists.proofs.Tests.{cond-both, cond-true}
@@ -17,7 +19,7 @@ use Rattle.state.specs.Locks.{hasId, hasIdD, normal}
 use Rattle.state.specs.Model.{Model, modelOf, stateOf, Limits, full, fits}
 use Rattle.rules.specs.declared.Verdict.{Verdict}
 use Rattle.rules.specs.declared.Verdict.the-variants.{Sound, Broken}
-use Rattle.rules.specs.Rules.{brokenRule, isSound, sound}
+use Rattle.rules.specs.Rules.{brokenRule, sound}
 use Rattle.rules.proofs.Sound.{sound-of, sound-state}
 use Rattle.lookups.specs.Reads.{byVerdict, onSound}
 use Rattle.lookups.proofs.Verdicts.{on-sound}
@@ -40,15 +42,15 @@ use Rattle.operations.specs.declared.answers.Deleted.{Deleted}
 use Rattle.operations.specs.declared.answers.Expired.{Expired}
 use Rattle.operations.specs.declared.answers.Acknowledged.{Acknowledged}
 use Rattle.operations.specs.declared.answers.DefunctsExpired.{DefunctsExpired}
-use Rattle.operations.specs.Answers.{isDone, paperOf, refuseIf, andThen, renewalPaper, deletionPaper, expirationPaper, acknowledgementPaper, expiryPaper}
+use Rattle.operations.specs.Answers.{isDone, paperOf, refuseIf, andThen}
 use Rattle.operations.specs.Defuncts.{removeD, removeAll}
 use Rattle.operations.specs.Checks.{atLast, checkRoom}
 use Rattle.operations.specs.Insert.{insertedIn, judgeInsert, inserted, closedInsert, settledInsert, insertActiveWith, insertActiveOn}
 use Rattle.operations.specs.Vehicle.{vehicleIn, judgeVehicle, insertVehicleWith, insertVehicleOn}
-use Rattle.operations.specs.Renew.{renewedIn, judgeFound, judgeRenew, renewed, closedRenew, settledRenew, renewOn}
-use Rattle.operations.specs.Delete.{treeOut, withoutTree, deleted, closedDelete, deleteFound, deleteOn, expired, asExpiration, asExpired, expireFound, beginExpirationOn}
+use Rattle.operations.specs.Renew.{renewedIn, judgeRenew, renewed, settledRenew, renewOn}
+use Rattle.operations.specs.Delete.{treeOut, withoutTree, deleted, deleteFound, deleteOn, expired, asExpiration, asExpired, expireFound, beginExpirationOn}
 use Rattle.operations.specs.Replace.{cutOf, replacedIn, judgeReplace, replaced, closedReplace, settledReplace, commitReplacementWith, commitReplacementOn}
-use Rattle.operations.specs.Acknowledge.{shedIn, acknowledged, toldAcknowledge, acknowledgedTo, acknowledgeOn, lapsed, lapsedOf, idsOfEntries, shed, shedTo, expireDefunctOn}
+use Rattle.operations.specs.Acknowledge.{shedIn, acknowledged, acknowledgedTo, acknowledgeOn, lapsed, lapsedOf, idsOfEntries, shed, shedTo, expireDefunctOn}
 use Rattle.promises.proofs.Passed.{is-done}
 use Rattle.promises.proofs.Keeps.{insert-keeps, vehicle-keeps, renew-keeps, delete-keeps, replace-keeps, acknowledge-keeps, expire-keeps}
 use Rattle.promises.proofs.Answered.{differ, foreign, insert-parts, vehicle-parts, replace-parts, insert-own, vehicle-own, replace-own}
@@ -62,10 +64,6 @@ by-verdict {A} P s u a f g = go (brokenRule s) refl
     go : (v : Verdict) → brokenRule s ≡ v → P (byVerdict v u a)
     go Sound e = g e
     go (Broken n) e = f n
-
--- ---- the closing check of a next state that is sound
-pub closes : {A : Type 0} (P : A → Type 0) (m : Model) (a b : A) → Yes (sound full m) → (brokenRule (stateOf m) ≡ Sound → P a) → P (cond (isSound (brokenRule (stateOf m))) a b)
-closes P m a b t f = let g = sound-state m t in rw (cond-true (isSound (brokenRule (stateOf m))) a b (ap isSound g)) (f g)
 
 -- ---- no judgement is the closing check's answer
 judge-not : (k : Limits) (a : Answer) (n : Model) → No (foreign a) → andThen a (checkRoom k n) ≡ Invariant → ⊥
@@ -127,6 +125,35 @@ pub replace-exactly : (s : LockState) (ws : List ℕ) (y : ActiveLock) (by at : 
 unfolding commitReplacementOn
 replace-exactly s ws y by at e = replace-with full s e (sound-of s e) ws y by at
 
+-- the five that make no closing check: what stands after the test at entry
+module _ (s : LockState) (e : brokenRule s ≡ Sound) where
+  pub renew-exactly : (i : LockId) (t now : ℕ) (has : Bool) (d : ℕ)
+      → renewOn s i t now has d ≡ settledRenew (judgeRenew (modelOf s) i t now) s (renewedIn (modelOf s) i t has d)
+  unfolding renewOn
+  renew-exactly i t now has d = sym (on-sound s _ _ (brokenRule s) refl e)
+
+  pub delete-exactly : (i : LockId) → deleteOn s i ≡ deleteFound s i (find (hasId i) (modelOf s .active))
+  unfolding deleteOn
+  delete-exactly i = sym (on-sound s _ _ (brokenRule s) refl e)
+
+  pub expiration-exactly : (i : LockId) (now : ℕ) → beginExpirationOn s i now ≡ expireFound s i now (find (hasId i) (modelOf s .active))
+  unfolding beginExpirationOn
+  expiration-exactly i now = sym (on-sound s _ _ (brokenRule s) refl e)
+
+  pub acknowledge-exactly : (i : LockId)
+      → acknowledgeOn s i
+      ≡ cond (any (hasIdD i) (modelOf s .defunct)) (acknowledgedTo s (stateOf (shedIn (modelOf s) (removeD i (modelOf s .defunct))))) (acknowledged acknowledgement.Absent s)
+  unfolding acknowledgeOn
+  acknowledge-exactly i = sym (on-sound s _ _ (brokenRule s) refl e)
+
+  pub expire-exactly : (now : ℕ)
+      → expireDefunctOn s now
+      ≡ cond (any (lapsed now) (modelOf s .defunct))
+      (shedTo s (idsOfEntries (lapsedOf now (modelOf s))) (stateOf (shedIn (modelOf s) (removeAll (lapsedOf now (modelOf s)) (modelOf s .defunct)))))
+      (shed expiry.Done [] s)
+  unfolding expireDefunctOn
+  expire-exactly now = sym (on-sound s _ _ (brokenRule s) refl e)
+
 -- and so what holds of both holds of the operation
 judged : {A : Type 0} (P : A → Type 0) (a : Answer) (m : Model) (d e r : A) → (a ≡ Done → Yes (sound full m))
     → (a ≡ Done → brokenRule (stateOf m) ≡ Sound → P d) → P r → P (cond (isDone a) (cond (sound full m) d e) r)
@@ -164,103 +191,75 @@ replace-comes P s ws y by at refused through =
     judged P _ _ _ _ _ (replace-keeps full (modelOf s) ws (normal y) by at (normal-neat y) (sound-of s e)) through
     (refused _ (λ q. judge-not full _ _ (replace-own (modelOf s) ws (normal y)) (sym (replace-parts (modelOf s) full ws (normal y) by at) ∙ q))))
 
--- ---- renew
-judge-renew-not : (m : Model) (i : LockId) (e now : ℕ) → judgeRenew m i e now ≡ renewal.Invariant → ⊥
-unfolding judgeRenew refuseIf renewalPaper
-judge-renew-not m i e now = go (find (hasId i) (m .active))
-  where
-    go : (o : Option ActiveLock) → judgeFound m i e now o ≡ renewal.Invariant → ⊥
-    go none = differ (λ r. eqb (renewalPaper r .number) 11) refl refl
-    go (some a) =
-        cond-both (λ (r : Renewal). r ≡ renewal.Invariant → ⊥) _ _ (leb (a .expires) now) (λ t. differ (λ r. eqb (renewalPaper r .number) 11) refl refl) (λ t.
-        cond-both (λ (r : Renewal). r ≡ renewal.Invariant → ⊥) _ _ (leb e (a .expires)) (λ t. differ (λ r. eqb (renewalPaper r .number) 11) refl refl) (λ t.
-        cond-both (λ (r : Renewal). r ≡ renewal.Invariant → ⊥) _ _ (atLast (m .revision)) (λ t. differ (λ r. eqb (renewalPaper r .number) 11) refl refl) (λ t. differ (λ r. eqb (renewalPaper r .number) 11) refl refl)))
+-- ---- the five that make no closing check (C-21): their next state is sound all the same
+-- renew
+settled-renew : (P : Renewed → Type 0) (s : LockState) (m : Model) (a : Renewal) → P (renewed a s) → (a ≡ renewal.Done → P (renewed renewal.Done (stateOf m))) → P (settledRenew a s m)
+settled-renew P s m renewal.Done f g = g refl
+settled-renew P s m (renewal.ActiveLockNotFound i) f g = f
+settled-renew P s m renewal.RevisionOverflow f g = f
+settled-renew P s m renewal.LockExpired f g = f
+settled-renew P s m renewal.RenewalNotExtension f g = f
+settled-renew P s m (renewal.UnsoundState n) f g = f
 
-settled-renew : (P : Renewed → Type 0) (s : LockState) (m : Model) → Yes (sound full m) → (a : Renewal) → P (renewed a s) → (a ≡ renewal.Done → brokenRule (stateOf m) ≡ Sound → P (renewed renewal.Done (stateOf m))) → P (settledRenew a s m)
-unfolding closedRenew
-settled-renew P s m t renewal.Done f g = closes P m _ _ t (g refl)
-settled-renew P s m t (renewal.ActiveLockNotFound i) f g = f
-settled-renew P s m t renewal.RevisionOverflow f g = f
-settled-renew P s m t renewal.LockExpired f g = f
-settled-renew P s m t renewal.RenewalNotExtension f g = f
-settled-renew P s m t renewal.Invariant f g = f
-settled-renew P s m t (renewal.UnsoundState n) f g = f
-
-pub renew-comes : (P : Renewed → Type 0) (s : LockState) (i : LockId) (e now : ℕ) (has : Bool) (d : ℕ) → ((b : Renewal) → (b ≡ renewal.Invariant → ⊥) → P (renewed b s))
+pub renew-comes : (P : Renewed → Type 0) (s : LockState) (i : LockId) (e now : ℕ) (has : Bool) (d : ℕ) → ((b : Renewal) → P (renewed b s))
     → (judgeRenew (modelOf s) i e now ≡ renewal.Done → brokenRule (stateOf (renewedIn (modelOf s) i e has d)) ≡ Sound → P (renewed renewal.Done (stateOf (renewedIn (modelOf s) i e has d))))
     → P (renewOn s i e now has d)
-unfolding renewOn renewalPaper
+unfolding renewOn
 renew-comes P s i e now has d refused through =
-    by-verdict P s (λ n. renewed (renewal.UnsoundState n) s) _ (λ n. refused (renewal.UnsoundState n) (differ (λ r. eqb (renewalPaper r .number) 11) refl refl)) (λ v.
-    settled-renew P s (renewedIn (modelOf s) i e has d) (renew-keeps (modelOf s) i e has d full (sound-of s v)) (judgeRenew (modelOf s) i e now)
-    (refused _ (judge-renew-not (modelOf s) i e now)) through)
+    by-verdict P s (λ n. renewed (renewal.UnsoundState n) s) _ (λ n. refused (renewal.UnsoundState n)) (λ v.
+    settled-renew P s (renewedIn (modelOf s) i e has d) (judgeRenew (modelOf s) i e now) (refused _)
+    (λ q. through q (sound-state _ (renew-keeps (modelOf s) i e has d full (sound-of s v)))))
 
--- ---- delete
-pub delete-comes : (P : Deleted → Type 0) (s : LockState) (i : LockId) → ((b : Deletion) → (b ≡ deletion.Invariant → ⊥) → P (deleted b [] s))
+-- delete
+pub delete-comes : (P : Deleted → Type 0) (s : LockState) (i : LockId) → ((b : Deletion) → P (deleted b [] s))
     → ((r : ActiveLock) → find (hasId i) (modelOf s .active) ≡ some r → brokenRule (stateOf (withoutTree (modelOf s) r)) ≡ Sound
     → P (deleted deletion.Done (treeOut (modelOf s) r .gone) (stateOf (withoutTree (modelOf s) r))))
     → P (deleteOn s i)
-unfolding deleteOn deleteFound closedDelete deletionPaper
+unfolding deleteOn deleteFound
 delete-comes P s i refused through =
-    by-verdict P s (λ n. deleted (deletion.UnsoundState n) [] s) _ (λ n. refused (deletion.UnsoundState n) (differ (λ r. eqb (deletionPaper r .number) 11) refl refl)) (λ v.
+    by-verdict P s (λ n. deleted (deletion.UnsoundState n) [] s) _ (λ n. refused (deletion.UnsoundState n)) (λ v.
     go (sound-of s v) (find (hasId i) (modelOf s .active)) refl)
   where
     go : Yes (sound full (modelOf s)) → (o : Option ActiveLock) → find (hasId i) (modelOf s .active) ≡ o → P (deleteFound s i o)
-    go t none q = refused (deletion.ActiveLockNotFound i) (differ (λ r. eqb (deletionPaper r .number) 11) refl refl)
+    go t none q = refused (deletion.ActiveLockNotFound i)
     go t (some r) q =
-        cond-both P _ _ (atLast (s .revision)) (λ u. refused deletion.RevisionOverflow (differ (λ r. eqb (deletionPaper r .number) 11) refl refl)) (λ u.
-        closes P (withoutTree (modelOf s) r) _ _ (delete-keeps full (modelOf s) r t) (through r q))
+        cond-both P _ _ (atLast (s .revision)) (λ u. refused deletion.RevisionOverflow) (λ u.
+        through r q (sound-state _ (delete-keeps full (modelOf s) r t)))
 
--- ---- begin_expiration: "else as delete"
-as-expiration-not : (b : Deletion) → (b ≡ deletion.Invariant → ⊥) → asExpiration b ≡ expiration.Invariant → ⊥
-unfolding expirationPaper
-as-expiration-not deletion.Done f = differ (λ r. eqb (expirationPaper r .number) 11) refl refl
-as-expiration-not (deletion.ActiveLockNotFound i) f = differ (λ r. eqb (expirationPaper r .number) 11) refl refl
-as-expiration-not deletion.RevisionOverflow f = differ (λ r. eqb (expirationPaper r .number) 11) refl refl
-as-expiration-not deletion.Invariant f = λ e. f refl
-as-expiration-not (deletion.UnsoundState n) f = differ (λ r. eqb (expirationPaper r .number) 11) refl refl
-
-pub expiration-comes : (P : Expired → Type 0) (s : LockState) (i : LockId) (now : ℕ) → ((b : Expiration) → (b ≡ expiration.Invariant → ⊥) → P (expired b [] s))
+-- begin_expiration: "else as delete"
+pub expiration-comes : (P : Expired → Type 0) (s : LockState) (i : LockId) (now : ℕ) → ((b : Expiration) → P (expired b [] s))
     → ((r : ActiveLock) → find (hasId i) (modelOf s .active) ≡ some r → brokenRule (stateOf (withoutTree (modelOf s) r)) ≡ Sound
     → P (expired expiration.Done (treeOut (modelOf s) r .gone) (stateOf (withoutTree (modelOf s) r))))
     → P (beginExpirationOn s i now)
-unfolding beginExpirationOn expireFound expirationPaper
+unfolding beginExpirationOn expireFound
 expiration-comes P s i now refused through =
-    by-verdict P s (λ n. expired (expiration.UnsoundState n) [] s) _ (λ n. refused (expiration.UnsoundState n) (differ (λ r. eqb (expirationPaper r .number) 11) refl refl)) (λ v.
+    by-verdict P s (λ n. expired (expiration.UnsoundState n) [] s) _ (λ n. refused (expiration.UnsoundState n)) (λ v.
     go (find (hasId i) (modelOf s .active)))
   where
     go : (o : Option ActiveLock) → P (expireFound s i now o)
-    go none = refused expiration.Stale (differ (λ r. eqb (expirationPaper r .number) 11) refl refl)
+    go none = refused expiration.Stale
     go (some r) =
-        cond-both P _ _ (ltb now (r .expires)) (λ u. refused (expiration.NotDue (r .expires)) (differ (λ r. eqb (expirationPaper r .number) 11) refl refl)) (λ u.
-        delete-comes (λ (d : Deleted). P (asExpired d)) s i (λ b f. refused (asExpiration b) (as-expiration-not b f)) through)
+        cond-both P _ _ (ltb now (r .expires)) (λ u. refused (expiration.NotDue (r .expires))) (λ u.
+        delete-comes (λ (d : Deleted). P (asExpired d)) s i (λ b. refused (asExpiration b)) through)
 
--- ---- acknowledge_defunct, expire_defunct: the entries are gone at the last revision too
-pub acknowledge-comes : (P : Acknowledged → Type 0) (s : LockState) (i : LockId) → ((b : Acknowledgement) → (b ≡ acknowledgement.Invariant → ⊥) → P (acknowledged b s))
-    → ((b : Acknowledgement) → (b ≡ acknowledgement.Invariant → ⊥) → brokenRule (stateOf (shedIn (modelOf s) (removeD i (modelOf s .defunct)))) ≡ Sound
+-- acknowledge_defunct, expire_defunct: the entries are gone at the last revision too
+pub acknowledge-comes : (P : Acknowledged → Type 0) (s : LockState) (i : LockId) → ((b : Acknowledgement) → P (acknowledged b s))
+    → ((b : Acknowledgement) → brokenRule (stateOf (shedIn (modelOf s) (removeD i (modelOf s .defunct)))) ≡ Sound
     → P (acknowledged b (stateOf (shedIn (modelOf s) (removeD i (modelOf s .defunct))))))
     → P (acknowledgeOn s i)
-unfolding acknowledgeOn acknowledgedTo toldAcknowledge acknowledgementPaper
+unfolding acknowledgeOn acknowledgedTo
 acknowledge-comes P s i refused through =
-    by-verdict P s (λ n. acknowledged (acknowledgement.UnsoundState n) s) _ (λ n. refused (acknowledgement.UnsoundState n) (differ (λ r. eqb (acknowledgementPaper r .number) 11) refl refl)) (λ v.
-    let t = acknowledge-keeps full (modelOf s) i (sound-of s v) in
-    cond-both P _ _ (any (hasIdD i) (modelOf s .defunct)) (λ u.
-    cond-both (λ (b : Acknowledgement). P (acknowledged b n)) _ _ (atLast (s .revision)) (λ u. through acknowledgement.RevisionOverflow (differ (λ r. eqb (acknowledgementPaper r .number) 11) refl refl) (sound-state _ t)) (λ u.
-    closes (λ (b : Acknowledgement). P (acknowledged b n)) _ _ _ t (through acknowledgement.Done (differ (λ r. eqb (acknowledgementPaper r .number) 11) refl refl))))
-    (λ u. refused acknowledgement.Absent (differ (λ r. eqb (acknowledgementPaper r .number) 11) refl refl)))
-  where
-    n : LockState
-    n = stateOf (shedIn (modelOf s) (removeD i (modelOf s .defunct)))
+    by-verdict P s (λ n. acknowledged (acknowledgement.UnsoundState n) s) _ (λ n. refused (acknowledgement.UnsoundState n)) (λ v.
+    cond-both P _ _ (any (hasIdD i) (modelOf s .defunct)) (λ u. through _ (sound-state _ (acknowledge-keeps full (modelOf s) i (sound-of s v)))) (λ u. refused acknowledgement.Absent))
 
-pub expire-defunct-comes : (P : DefunctsExpired → Type 0) (s : LockState) (now : ℕ) → ((b : DefunctExpiry) → (b ≡ expiry.Invariant → ⊥) → P (shed b [] s))
-    → ((b : DefunctExpiry) (l : List LockId) → (b ≡ expiry.Invariant → ⊥) → brokenRule (stateOf (shedIn (modelOf s) (removeAll (lapsedOf now (modelOf s)) (modelOf s .defunct)))) ≡ Sound
+pub expire-defunct-comes : (P : DefunctsExpired → Type 0) (s : LockState) (now : ℕ) → ((b : DefunctExpiry) → P (shed b [] s))
+    → ((b : DefunctExpiry) (l : List LockId) → brokenRule (stateOf (shedIn (modelOf s) (removeAll (lapsedOf now (modelOf s)) (modelOf s .defunct)))) ≡ Sound
     → P (shed b l (stateOf (shedIn (modelOf s) (removeAll (lapsedOf now (modelOf s)) (modelOf s .defunct))))))
     → P (expireDefunctOn s now)
-unfolding expireDefunctOn shedTo expiryPaper
+unfolding expireDefunctOn shedTo
 expire-defunct-comes P s now refused through =
-    by-verdict P s (λ n. shed (expiry.UnsoundState n) [] s) _ (λ n. refused (expiry.UnsoundState n) (differ (λ r. eqb (expiryPaper r .number) 11) refl refl)) (λ v.
-    let t = expire-keeps full (modelOf s) (lapsedOf now (modelOf s)) (sound-of s v) in
+    by-verdict P s (λ n. shed (expiry.UnsoundState n) [] s) _ (λ n. refused (expiry.UnsoundState n)) (λ v.
+    let g = sound-state _ (expire-keeps full (modelOf s) (lapsedOf now (modelOf s)) (sound-of s v)) in
     cond-both P _ _ (any (lapsed now) (modelOf s .defunct)) (λ u.
-    cond-both P _ _ (atLast (s .revision)) (λ u. through expiry.RevisionOverflow [] (differ (λ r. eqb (expiryPaper r .number) 11) refl refl) (sound-state _ t)) (λ u.
-    closes P _ _ _ t (through expiry.Done (idsOfEntries (lapsedOf now (modelOf s))) (differ (λ r. eqb (expiryPaper r .number) 11) refl refl))))
-    (λ u. refused expiry.Done (differ (λ r. eqb (expiryPaper r .number) 11) refl refl)))
+    cond-both P _ _ (atLast (s .revision)) (λ u. through expiry.RevisionOverflow [] g) (λ u. through expiry.Done (idsOfEntries (lapsedOf now (modelOf s))) g))
+    (λ u. refused expiry.Done))

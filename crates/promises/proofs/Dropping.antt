@@ -1,5 +1,5 @@
--- delete_defunct is no operation of a feed, so the steps of Again don't have it. The same two theorems for it: what the test
--- accepts it accepts again, and the closing check's Invariant is never answered. Assumes nothing.
+-- delete_defunct is no operation of a feed, so the steps of Again don't have it. The same theorem for it: what the test
+-- accepts it accepts again. Assumes nothing.
 use mathlib.Core.Path.{_≡_, refl}
 use mathlib.Core.Option.{Option, none, some}
 use Prim.Native.Nat.{ℕ}
@@ -16,15 +16,11 @@ use Rattle.rules.specs.declared.Verdict.{Verdict}
 use Rattle.rules.specs.declared.Verdict.the-variants.{Sound, Broken}
 use Rattle.rules.specs.Rules.{brokenRule}
 use Rattle.lookups.specs.Reads.{byVerdict, onSound}
-use Rattle.operations.specs.declared.answers.Acknowledgement.{Acknowledgement}
-use Rattle.operations.specs.declared.answers.Acknowledgement.the-variants as acknowledgement
 use Rattle.operations.specs.Acknowledge.{acknowledgeOn}
-use Rattle.locks.specs.declared.Dropping.{Dropping}
 use Rattle.locks.specs.declared.Dropping.the-variants as dropping
 use Rattle.locks.specs.declared.Dropped.{Dropped}
-use Rattle.locks.specs.Locks.{dropped, asDropping, asDropped, dropFoundOn, deleteDefunctOn, droppingPaper}
-use Rattle.promises.proofs.Answered.{differ}
-use Rattle.promises.proofs.Again.{acknowledge-never, acknowledge-accepted}
+use Rattle.locks.specs.Locks.{dropped, asDropped, dropFoundOn, deleteDefunctOn}
+use Rattle.promises.proofs.Again.{acknowledge-accepted}
 
 -- what holds of each way out holds of the answer
 module _ (P : Dropped → Type 0) (s : LockState) (i : LockId) (k : ScopeKey) (subject : ℕ) where
@@ -44,24 +40,6 @@ module _ (P : Dropped → Type 0) (s : LockState) (i : LockId) (k : ScopeKey) (s
   unfolding deleteDefunctOn onSound
   drop-comes unsound absent forbidden done =
       tested-comes (brokenRule s) _ unsound (found-comes (find (hasIdD i) (modelOf s .defunct)) absent forbidden done)
-
--- ---- never Invariant
-as-never : (a : Acknowledgement) → (a ≡ acknowledgement.Invariant → ⊥) → asDropping a ≡ dropping.Invariant → ⊥
-unfolding droppingPaper
-as-never acknowledgement.Done f = differ (λ a. eqb (droppingPaper a .number) 11) refl refl
-as-never acknowledgement.Absent f = differ (λ a. eqb (droppingPaper a .number) 11) refl refl
-as-never acknowledgement.RevisionOverflow f = differ (λ a. eqb (droppingPaper a .number) 11) refl refl
-as-never acknowledgement.Invariant f = λ e. f refl
-as-never (acknowledgement.UnsoundState n) f = differ (λ a. eqb (droppingPaper a .number) 11) refl refl
-
-pub delete-defunct-never : (s : LockState) (i : LockId) (k : ScopeKey) (subject : ℕ) → deleteDefunctOn s i k subject .told ≡ dropping.Invariant → ⊥
-unfolding droppingPaper
-delete-defunct-never s i k subject =
-    drop-comes (λ r. r .told ≡ dropping.Invariant → ⊥) s i k subject
-    (λ n. differ (λ a. eqb (droppingPaper a .number) 11) refl refl)
-    (differ (λ a. eqb (droppingPaper a .number) 11) refl refl)
-    (differ (λ a. eqb (droppingPaper a .number) 11) refl refl)
-    (as-never (acknowledgeOn s i .told) (acknowledge-never s i))
 
 -- ---- accepted again
 pub delete-defunct-accepted : (s : LockState) → brokenRule s ≡ Sound → (i : LockId) (k : ScopeKey) (subject : ℕ) (r : Dropped) → r ≡ deleteDefunctOn s i k subject → brokenRule (r .state) ≡ Sound

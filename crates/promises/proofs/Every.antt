@@ -58,7 +58,6 @@ module _ (k : Limits) (m : Model) (s : Yes (sound k m)) where
   renewal-keeps renewal.RevisionOverflow new f = s
   renewal-keeps renewal.LockExpired new f = s
   renewal-keeps renewal.RenewalNotExtension new f = s
-  renewal-keeps renewal.Invariant new f = s
   renewal-keeps (renewal.UnsoundState n) new f = s
 
   last-keeps : (r : ActiveLock) → Yes (sound k (cond (atLast (m .revision)) m (withoutTree m r)))

@@ -7,10 +7,11 @@
 --     Carried   what is true of every lock and kept by the ways in which operations make locks stays true of every lock
 --     Closed    a tree is closed under parents; overlap is symmetric; the empty set overlaps no set
 -- On the state, as the code's contracts say it:
---     Again     no operation answers the closing check's Invariant; what the test accepts it accepts again (demand 3)
+--     Again     the closing check's Invariant is never answered; what the test accepts it accepts again (demand 3), and so
+--               the five operations that make no closing check need none
 --     Lowest    what a read finds has the lowest id of the locks that fit
 --     Dropping  the same of delete_defunct, which no feed asks for
---     Agree     the steps on lists and on states are one
+--     Agree     on a sound state all eight in one form: answer, removed locks, next state (demand 2)
 --     Bench     the bench sheet's twelve starred rows
 -- The other files have what these are made of.
 pub mod Passed

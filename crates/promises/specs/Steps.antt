@@ -1,7 +1,7 @@
 -- The eight operations as steps from state to state, over any limits k: the next state where the operation goes through,
 -- the same where it is refused. Document 01, "Order of checks" and, for the last revision, the table's note to 8: after an
 -- acknowledgement or an expiry of defunct entries "entries are gone all the same, revision unchanged".
-use mathlib.Core.Bool.{Bool, cond}
+use mathlib.Core.Bool.{Bool, true, false, cond}
 use mathlib.Core.List.{List, [], _∷_}
 use mathlib.Core.Option.{Option, none, some}
 use Prim.Native.Nat.{ℕ}
@@ -36,6 +36,17 @@ pub data Op : Type 0 where
   acknowledge : LockId → Op
   expireDefunct : ℕ → Op
 
+-- 02, C-21: "renewal, deletion, acknowledgement and both expiries" end without a check of the whole state
+unfoldable pub shortened : Op → Bool
+shortened (insertActive y) = false
+shortened (insertVehicle y ws) = false
+shortened (renew i e now has d) = true
+shortened (delete i) = true
+shortened (beginExpiration i now) = true
+shortened (commitReplacement ws y by at) = false
+shortened (acknowledge i) = true
+shortened (expireDefunct now) = true
+
 -- ---- on the lists, over any limits
 abbrev pub after : Answer → Model → Model → Model
 after a old new = cond (isDone a) new old
@@ -46,7 +57,6 @@ afterRenewal (renewal.ActiveLockNotFound i) old new = old
 afterRenewal renewal.RevisionOverflow old new = old
 afterRenewal renewal.LockExpired old new = old
 afterRenewal renewal.RenewalNotExtension old new = old
-afterRenewal renewal.Invariant old new = old
 afterRenewal (renewal.UnsoundState n) old new = old
 
 abbrev pub afterDelete : Model → Option ActiveLock → Model

@@ -14,7 +14,8 @@ use Rattle.rules.specs.Rules.{brokenRule}
 use Rattle.rules.proofs.Sound.{sound-state}
 use Rattle.records.specs.declared.requests.Request.{Request}
 use Rattle.records.specs.declared.requests.Request.the-variants.{Insert, InsertVehicle, Renew, Delete, BeginExpiration, Replace, Acknowledge, ExpireDefunct}
-use Rattle.promises.specs.Steps.{Op, insertActive, insertVehicle, renew, delete, beginExpiration, commitReplacement, acknowledge, expireDefunct, stepOn as directOn}
+use Rattle.promises.specs.Steps.{stepOn as directOn}
+use Rattle.promises.specs.Results.{opOf}
 use Rattle.promises.proofs.Again.{accepted-again}
 use Rattle.promises.proofs.Every.{empty-sound}
 use Rattle.image.specs.declared.Spare.{Spare}
@@ -31,16 +32,6 @@ use Rattle.feed.proofs.Turning.{turn-comes, step-sound}
 use Rattle.takeover.specs.Feeding.{performs}
 
 -- ---- the same request in a direct call
-abbrev pub opOf : Request → List ℕ → Op
-opOf (Insert x) ws = insertActive x
-opOf (InsertVehicle x) ws = insertVehicle x ws
-opOf (Renew r) ws = renew (r .id) (r .expires) (r .now) (r .given) (r .metadata)
-opOf (Delete i) ws = delete i
-opOf (BeginExpiration e) ws = beginExpiration (e .id) (e .now)
-opOf (Replace r) ws = commitReplacement ws (r .lock) (r .breaker) (r .broken)
-opOf (Acknowledge i) ws = acknowledge i
-opOf (ExpireDefunct now) ws = expireDefunct now
-
 pub perform-state : (s : LockState) (r : Request) (ws : List ℕ) → performOn s r ws .state ≡ directOn s (opOf r ws)
 unfolding performOn directOn
 perform-state s (Insert x) ws = refl

@@ -17,9 +17,9 @@ use Rattle.ids.specs.Words.{oddWords}
 use Rattle.state.specs.declared.ActiveLock.{ActiveLock}
 use Rattle.state.specs.declared.LockState.{LockState}
 use Rattle.state.specs.Locks.{hasId, hasIdD, normal}
-use Rattle.state.specs.Model.{Model, Limits, modelOf, stateOf, full, fits}
+use Rattle.state.specs.Model.{Model, Limits, modelOf, full, fits}
 use Rattle.rules.specs.declared.Verdict.the-variants.{Sound}
-use Rattle.rules.specs.Rules.{brokenRule, isSound}
+use Rattle.rules.specs.Rules.{brokenRule}
 use Rattle.lookups.specs.Reads.{onSound}
 use Rattle.operations.specs.declared.answers.Answer.{Answer}
 use Rattle.operations.specs.declared.answers.Answer.the-variants.{Done, DuplicateId, DuplicateScope, ActiveLockNotFound, ParentNotFound, ParentNotVehicle, ReplacementScopeConflict, CoverageConflict, RevisionOverflow, NotRootVehicle, BadChild, OtherOwner, NotCovered, Invariant, UnsoundState, NoRoom, BadList}
@@ -36,8 +36,8 @@ use Rattle.operations.specs.Answers.{isDone, refuseIf, andThen, paperOf, renewa
 use Rattle.operations.specs.Checks.{atLast, checkList, checkRoom}
 use Rattle.operations.specs.Insert.{judgeInsert, insertActiveOn}
 use Rattle.operations.specs.Vehicle.{judgeVehicle, insertVehicleOn}
-use Rattle.operations.specs.Renew.{renewedIn, judgeFound, judgeRenew, closedRenew, settledRenew, renewOn}
-use Rattle.operations.specs.Delete.{closedDelete, deleteFound, deleteOn, asExpired, expireFound, beginExpirationOn}
+use Rattle.operations.specs.Renew.{renewedIn, judgeFound, judgeRenew, settledRenew, renewOn}
+use Rattle.operations.specs.Delete.{deleteFound, deleteOn, asExpired, expireFound, beginExpirationOn}
 use Rattle.operations.specs.Replace.{judgeReplace, commitReplacementOn}
 use Rattle.operations.specs.Acknowledge.{toldAcknowledge, acknowledgedTo, acknowledgeOn, lapsed, shedTo, expireDefunctOn}
 use Rattle.promises.proofs.Answered.{foreignIf, insert-parts, vehicle-parts, replace-parts, insert-own-if, vehicle-own-if, replace-own-if}
@@ -122,7 +122,7 @@ module _ (s : LockState) (e : brokenRule s ≡ Sound) where
       (λ t. rw (replace-parts (modelOf s) full ws (normal y) by at) (judge-moves full _ _ (replace-own-if (modelOf s) true ws (normal y) (list-moves ws h)))))
 
   renew-moves : (i : LockId) (t now : ℕ) (has : Bool) (d : ℕ) → Yes (moves (renewalPaper (renewOn s i t now has d .told) .number))
-  unfolding renewOn judgeRenew closedRenew refuseIf renewalPaper
+  unfolding renewOn judgeRenew refuseIf renewalPaper
   renew-moves i t now has d = sound-arm (λ (r : Renewed). Yes (moves (renewalPaper (r .told) .number))) _ _ (go (find (hasId i) (modelOf s .active)))
     where
       P : Renewal → Type 0
@@ -133,11 +133,10 @@ module _ (s : LockState) (e : brokenRule s ≡ Sound) where
       go (some a) =
           cond-both P _ _ (leb (a .expires) now) (λ u. refl) (λ u.
           cond-both P _ _ (leb t (a .expires)) (λ u. refl) (λ u.
-          cond-both P _ _ (atLast (s .revision)) (λ u. refl) (λ u.
-          cond-both (λ (r : Renewed). Yes (moves (renewalPaper (r .told) .number))) _ _ (isSound (brokenRule (stateOf (renewedIn (modelOf s) i t has d)))) (λ u. refl) (λ u. refl))))
+          cond-both P _ _ (atLast (s .revision)) (λ u. refl) (λ u. refl)))
 
   delete-moves : (i : LockId) → Yes (moves (deletionPaper (deleteOn s i .told .answer) .number))
-  unfolding deleteOn deleteFound closedDelete deletionPaper
+  unfolding deleteOn deleteFound deletionPaper
   delete-moves i = sound-arm P _ _ (go (find (hasId i) (modelOf s .active)))
     where
       P : Deleted → Type 0
@@ -145,10 +144,10 @@ module _ (s : LockState) (e : brokenRule s ≡ Sound) where
 
       go : (o : Option ActiveLock) → P (deleteFound s i o)
       go none = refl
-      go (some r) = cond-both P _ _ (atLast (s .revision)) (λ u. refl) (λ u. cond-both P _ _ (isSound (brokenRule _)) (λ u. refl) (λ u. refl))
+      go (some r) = cond-both P _ _ (atLast (s .revision)) (λ u. refl) (λ u. refl)
 
   expiration-moves : (i : LockId) (now : ℕ) → Yes (moves (expirationPaper (beginExpirationOn s i now .told .answer) .number))
-  unfolding beginExpirationOn expireFound deleteOn deleteFound closedDelete expirationPaper
+  unfolding beginExpirationOn expireFound deleteOn deleteFound expirationPaper
   expiration-moves i now = sound-arm P _ _ (go (find (hasId i) (modelOf s .active)))
     where
       P : Expired → Type 0
@@ -160,7 +159,7 @@ module _ (s : LockState) (e : brokenRule s ≡ Sound) where
       -- as a deletion
       gone : (o : Option ActiveLock) → Q (deleteFound s i o)
       gone none = refl
-      gone (some r) = cond-both Q _ _ (atLast (s .revision)) (λ u. refl) (λ u. cond-both Q _ _ (isSound (brokenRule _)) (λ u. refl) (λ u. refl))
+      gone (some r) = cond-both Q _ _ (atLast (s .revision)) (λ u. refl) (λ u. refl)
 
       go : (o : Option ActiveLock) → P (expireFound s i now o)
       go none = refl
@@ -171,7 +170,7 @@ module _ (s : LockState) (e : brokenRule s ≡ Sound) where
   acknowledge-moves i =
       sound-arm (λ (r : Acknowledged). Yes (moves (acknowledgementPaper (r .told) .number))) _ _
       (cond-both (λ (r : Acknowledged). Yes (moves (acknowledgementPaper (r .told) .number))) _ _ (any (hasIdD i) (modelOf s .defunct))
-      (λ u. cond-both P _ _ (atLast (s .revision)) (λ u. refl) (λ u. cond-both P _ _ (isSound (brokenRule _)) (λ u. refl) (λ u. refl))) (λ u. refl))
+      (λ u. cond-both P _ _ (atLast (s .revision)) (λ u. refl) (λ u. refl)) (λ u. refl))
     where
       P : Acknowledgement → Type 0
       P a = Yes (moves (acknowledgementPaper a .number))
@@ -181,7 +180,7 @@ module _ (s : LockState) (e : brokenRule s ≡ Sound) where
   expiry-moves now =
       sound-arm P _ _
       (cond-both P _ _ (any (lapsed now) (modelOf s .defunct))
-      (λ u. cond-both P _ _ (atLast (s .revision)) (λ u. refl) (λ u. cond-both P _ _ (isSound (brokenRule _)) (λ u. refl) (λ u. refl))) (λ u. refl))
+      (λ u. cond-both P _ _ (atLast (s .revision)) (λ u. refl) (λ u. refl)) (λ u. refl))
     where
       P : DefunctsExpired → Type 0
       P r = Yes (moves (expiryPaper (r .told .answer) .number))

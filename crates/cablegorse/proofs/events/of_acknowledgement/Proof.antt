@@ -27,20 +27,14 @@ enum-told-3 c = search needs
 none-requires : tie.Need-none-requires
 none-requires c κs = search needs
 
-enum-told-4 : tie.Need-enum-told-4
-enum-told-4 c = search needs
-
-one-requires-3 : tie.Need-one-requires-3
-one-requires-3 c κs = search needs
-
 enum-known-a : tie.Need-enum-known-a
 enum-known-a c = search needs
 
 cast-one : tie.Need-cast-one
 cast-one c = search needs
 
-one-requires-4 : tie.Need-one-requires-4
-one-requires-4 c κs = search needs
+one-requires-3 : tie.Need-one-requires-3
+one-requires-3 c κs = search needs
 
 returns : tie.Need-returns
 unfolding acknowledgementPaper
@@ -56,11 +50,7 @@ returns-3 c = c .none .ensures ∙ ap (λ (x : Acknowledgement). toldOf (paper (
 
 returns-4 : tie.Need-returns-4
 unfolding acknowledgementPaper
-returns-4 c = c .one3 .ensures ∙ ap (λ (x : Acknowledgement). toldOf (paper (c .before .before .before .args .n) (acknowledgementPaper x .values))) (sym (c .before .enum-told4 .given .1))
-
-returns-5 : tie.Need-returns-5
-unfolding acknowledgementPaper
-returns-5 c = c .one4 .ensures ∙ ap (λ (x : Acknowledgement). toldOf (paper (c .before .before .before .before .args .n) (acknowledgementPaper x .values))) (sym (c .before .before .a .given .1))
+returns-4 c = c .one3 .ensures ∙ ap (λ (x : Acknowledgement). toldOf (paper (c .before .before .before .before .args .n) (acknowledgementPaper x .values))) (sym (c .before .before .a .given .1))
 
 pub of-acknowledgement-spec : {M : Type 1} → statement M
 of-acknowledgement-spec =
@@ -72,13 +62,10 @@ of-acknowledgement-spec =
     one-requires-2
     enum-told-3
     none-requires
-    enum-told-4
-    one-requires-3
     enum-known-a
     cast-one
-    one-requires-4
+    one-requires-3
     returns
     returns-2
     returns-3
-    returns-4
-    returns-5)
+    returns-4)

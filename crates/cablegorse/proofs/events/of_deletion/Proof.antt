@@ -27,20 +27,14 @@ enum-told-2 c = search needs
 none-requires-2 : tie.Need-none-requires-2
 none-requires-2 c κs = search needs
 
-enum-told-3 : tie.Need-enum-told-3
-enum-told-3 c = search needs
-
-one-requires : tie.Need-one-requires
-one-requires c κs = search needs
-
 enum-known-a-2 : tie.Need-enum-known-a-2
 enum-known-a-2 c = search needs
 
 cast-one : tie.Need-cast-one
 cast-one c = search needs
 
-one-requires-2 : tie.Need-one-requires-2
-one-requires-2 c κs = search needs
+one-requires : tie.Need-one-requires
+one-requires c κs = search needs
 
 returns : tie.Need-returns
 unfolding deletionPaper
@@ -56,11 +50,7 @@ returns-3 c = c .none2 .ensures ∙ ap (λ (x : Deletion). toldOf (paper (c .bef
 
 returns-4 : tie.Need-returns-4
 unfolding deletionPaper
-returns-4 c = c .one .ensures ∙ ap (λ (x : Deletion). toldOf (paper (c .before .before .before .args .n) (deletionPaper x .values))) (sym (c .before .enum-told3 .given .1))
-
-returns-5 : tie.Need-returns-5
-unfolding deletionPaper
-returns-5 c = c .one2 .ensures ∙ ap (λ (x : Deletion). toldOf (paper (c .before .before .before .before .args .n) (deletionPaper x .values))) (sym (c .before .before .a2 .given .1))
+returns-4 c = c .one .ensures ∙ ap (λ (x : Deletion). toldOf (paper (c .before .before .before .before .args .n) (deletionPaper x .values))) (sym (c .before .before .a2 .given .1))
 
 pub of-deletion-spec : {M : Type 1} → statement M
 of-deletion-spec =
@@ -72,13 +62,10 @@ of-deletion-spec =
     two-requires
     enum-told-2
     none-requires-2
-    enum-told-3
-    one-requires
     enum-known-a-2
     cast-one
-    one-requires-2
+    one-requires
     returns
     returns-2
     returns-3
-    returns-4
-    returns-5)
+    returns-4)

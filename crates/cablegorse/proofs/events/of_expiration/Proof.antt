@@ -33,20 +33,14 @@ enum-told-3 c = search needs
 none-requires : tie.Need-none-requires
 none-requires c κs = search needs
 
-enum-told-4 : tie.Need-enum-told-4
-enum-told-4 c = search needs
-
-one-requires-3 : tie.Need-one-requires-3
-one-requires-3 c κs = search needs
-
 enum-known-a-2 : tie.Need-enum-known-a-2
 enum-known-a-2 c = search needs
 
 cast-one : tie.Need-cast-one
 cast-one c = search needs
 
-one-requires-4 : tie.Need-one-requires-4
-one-requires-4 c κs = search needs
+one-requires-3 : tie.Need-one-requires-3
+one-requires-3 c κs = search needs
 
 returns : tie.Need-returns
 unfolding expirationPaper
@@ -66,11 +60,7 @@ returns-4 c = c .none .ensures ∙ ap (λ (x : Expiration). toldOf (paper (c .be
 
 returns-5 : tie.Need-returns-5
 unfolding expirationPaper
-returns-5 c = c .one3 .ensures ∙ ap (λ (x : Expiration). toldOf (paper (c .before .before .before .args .n) (expirationPaper x .values))) (sym (c .before .enum-told4 .given .1))
-
-returns-6 : tie.Need-returns-6
-unfolding expirationPaper
-returns-6 c = c .one4 .ensures ∙ ap (λ (x : Expiration). toldOf (paper (c .before .before .before .before .args .n) (expirationPaper x .values))) (sym (c .before .before .a2 .given .1))
+returns-5 c = c .one3 .ensures ∙ ap (λ (x : Expiration). toldOf (paper (c .before .before .before .before .args .n) (expirationPaper x .values))) (sym (c .before .before .a2 .given .1))
 
 pub of-expiration-spec : {M : Type 1} → statement M
 of-expiration-spec =
@@ -84,14 +74,11 @@ of-expiration-spec =
     two-requires
     enum-told-3
     none-requires
-    enum-told-4
-    one-requires-3
     enum-known-a-2
     cast-one
-    one-requires-4
+    one-requires-3
     returns
     returns-2
     returns-3
     returns-4
-    returns-5
-    returns-6)
+    returns-5)

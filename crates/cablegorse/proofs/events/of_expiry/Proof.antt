@@ -21,20 +21,14 @@ enum-told-2 c = search needs
 none-requires-2 : tie.Need-none-requires-2
 none-requires-2 c κs = search needs
 
-enum-told-3 : tie.Need-enum-told-3
-enum-told-3 c = search needs
-
-one-requires : tie.Need-one-requires
-one-requires c κs = search needs
-
 enum-known-a : tie.Need-enum-known-a
 enum-known-a c = search needs
 
 cast-one : tie.Need-cast-one
 cast-one c = search needs
 
-one-requires-2 : tie.Need-one-requires-2
-one-requires-2 c κs = search needs
+one-requires : tie.Need-one-requires
+one-requires c κs = search needs
 
 returns : tie.Need-returns
 unfolding expiryPaper
@@ -46,11 +40,7 @@ returns-2 c = c .none2 .ensures ∙ ap (λ (x : DefunctExpiry). toldOf (paper (c
 
 returns-3 : tie.Need-returns-3
 unfolding expiryPaper
-returns-3 c = c .one .ensures ∙ ap (λ (x : DefunctExpiry). toldOf (paper (c .before .before .before .args .n) (expiryPaper x .values))) (sym (c .before .enum-told3 .given .1))
-
-returns-4 : tie.Need-returns-4
-unfolding expiryPaper
-returns-4 c = c .one2 .ensures ∙ ap (λ (x : DefunctExpiry). toldOf (paper (c .before .before .before .before .args .n) (expiryPaper x .values))) (sym (c .before .before .a .given .1))
+returns-3 c = c .one .ensures ∙ ap (λ (x : DefunctExpiry). toldOf (paper (c .before .before .before .before .args .n) (expiryPaper x .values))) (sym (c .before .before .a .given .1))
 
 pub of-expiry-spec : {M : Type 1} → statement M
 of-expiry-spec =
@@ -60,12 +50,9 @@ of-expiry-spec =
     none-requires
     enum-told-2
     none-requires-2
-    enum-told-3
-    one-requires
     enum-known-a
     cast-one
-    one-requires-2
+    one-requires
     returns
     returns-2
-    returns-3
-    returns-4)
+    returns-3)

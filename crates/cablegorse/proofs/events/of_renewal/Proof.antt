@@ -39,20 +39,14 @@ enum-told-4 c = search needs
 none-requires-4 : tie.Need-none-requires-4
 none-requires-4 c κs = search needs
 
-enum-told-5 : tie.Need-enum-told-5
-enum-told-5 c = search needs
-
-one-requires : tie.Need-one-requires
-one-requires c κs = search needs
-
 enum-known-a-2 : tie.Need-enum-known-a-2
 enum-known-a-2 c = search needs
 
 cast-one : tie.Need-cast-one
 cast-one c = search needs
 
-one-requires-2 : tie.Need-one-requires-2
-one-requires-2 c κs = search needs
+one-requires : tie.Need-one-requires
+one-requires c κs = search needs
 
 returns : tie.Need-returns
 unfolding renewalPaper
@@ -76,11 +70,7 @@ returns-5 c = c .none4 .ensures ∙ ap (λ (x : Renewal). toldOf (paper (c .befo
 
 returns-6 : tie.Need-returns-6
 unfolding renewalPaper
-returns-6 c = c .one .ensures ∙ ap (λ (x : Renewal). toldOf (paper (c .before .before .before .args .n) (renewalPaper x .values))) (sym (c .before .enum-told5 .given .1))
-
-returns-7 : tie.Need-returns-7
-unfolding renewalPaper
-returns-7 c = c .one2 .ensures ∙ ap (λ (x : Renewal). toldOf (paper (c .before .before .before .before .args .n) (renewalPaper x .values))) (sym (c .before .before .a2 .given .1))
+returns-6 c = c .one .ensures ∙ ap (λ (x : Renewal). toldOf (paper (c .before .before .before .before .args .n) (renewalPaper x .values))) (sym (c .before .before .a2 .given .1))
 
 pub of-renewal-spec : {M : Type 1} → statement M
 of-renewal-spec =
@@ -96,15 +86,12 @@ of-renewal-spec =
     none-requires-3
     enum-told-4
     none-requires-4
-    enum-told-5
-    one-requires
     enum-known-a-2
     cast-one
-    one-requires-2
+    one-requires
     returns
     returns-2
     returns-3
     returns-4
     returns-5
-    returns-6
-    returns-7)
+    returns-6)

@@ -21,9 +21,6 @@ enum-told-4 c = search needs
 enum-told-5 : tie.Need-enum-told-5
 enum-told-5 c = search needs
 
-enum-told-6 : tie.Need-enum-told-6
-enum-told-6 c = search needs
-
 returns : tie.Need-returns
 unfolding isGone
 returns c = ap isGone (sym (c .enum-told .given .1))
@@ -44,10 +41,6 @@ returns-5 : tie.Need-returns-5
 unfolding isGone
 returns-5 c = ap isGone (sym (c .enum-told5 .given .1))
 
-returns-6 : tie.Need-returns-6
-unfolding isGone
-returns-6 c = ap isGone (sym (c .enum-told6 .given .1))
-
 pub is-gone-spec : {M : Type 1} → statement M
 is-gone-spec =
     tie.close
@@ -57,10 +50,8 @@ is-gone-spec =
     enum-told-3
     enum-told-4
     enum-told-5
-    enum-told-6
     returns
     returns-2
     returns-3
     returns-4
-    returns-5
-    returns-6)
+    returns-5)

@@ -26,23 +26,17 @@ enum-told-3 c = search needs
 none-requires : tie.Need-none-requires
 none-requires c κs = search needs
 
-enum-told-4 : tie.Need-enum-told-4
-enum-told-4 c = search needs
-
-one-requires-3 : tie.Need-one-requires-3
-one-requires-3 c κs = search needs
-
 enum-known-d : tie.Need-enum-known-d
 enum-known-d c = search needs
 
 cast-one : tie.Need-cast-one
 cast-one c = search needs
 
-one-requires-4 : tie.Need-one-requires-4
-one-requires-4 c κs = search needs
+one-requires-3 : tie.Need-one-requires-3
+one-requires-3 c κs = search needs
 
-enum-told-5 : tie.Need-enum-told-5
-enum-told-5 c = search needs
+enum-told-4 : tie.Need-enum-told-4
+enum-told-4 c = search needs
 
 none-requires-2 : tie.Need-none-requires-2
 none-requires-2 c κs = search needs
@@ -61,15 +55,11 @@ returns-3 c = c .none .ensures ∙ ap (λ (x : Dropping). toldOf (droppingPaper 
 
 returns-4 : tie.Need-returns-4
 unfolding droppingPaper
-returns-4 c = c .one3 .ensures ∙ ap (λ (x : Dropping). toldOf (droppingPaper x)) (sym (c .before .enum-told4 .given .1))
+returns-4 c = c .one3 .ensures ∙ ap (λ (x : Dropping). toldOf (droppingPaper x)) (sym (c .before .before .d .given .1))
 
 returns-5 : tie.Need-returns-5
 unfolding droppingPaper
-returns-5 c = c .one4 .ensures ∙ ap (λ (x : Dropping). toldOf (droppingPaper x)) (sym (c .before .before .d .given .1))
-
-returns-6 : tie.Need-returns-6
-unfolding droppingPaper
-returns-6 c = c .none2 .ensures ∙ ap (λ (x : Dropping). toldOf (droppingPaper x)) (sym (c .before .enum-told5 .given .1))
+returns-5 c = c .none2 .ensures ∙ ap (λ (x : Dropping). toldOf (droppingPaper x)) (sym (c .before .enum-told4 .given .1))
 
 pub of-dropping-spec : {M : Type 1} → statement M
 of-dropping-spec =
@@ -81,16 +71,13 @@ of-dropping-spec =
     one-requires-2
     enum-told-3
     none-requires
-    enum-told-4
-    one-requires-3
     enum-known-d
     cast-one
-    one-requires-4
-    enum-told-5
+    one-requires-3
+    enum-told-4
     none-requires-2
     returns
     returns-2
     returns-3
     returns-4
-    returns-5
-    returns-6)
+    returns-5)

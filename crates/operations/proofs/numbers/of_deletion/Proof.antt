@@ -17,9 +17,6 @@ enum-told-3 c = search needs
 enum-told-4 : tie.Need-enum-told-4
 enum-told-4 c = search needs
 
-enum-told-5 : tie.Need-enum-told-5
-enum-told-5 c = search needs
-
 returns : tie.Need-returns
 unfolding deletionPaper
 returns c = rw (c .enum-told .given .1)
@@ -36,10 +33,6 @@ returns-4 : tie.Need-returns-4
 unfolding deletionPaper
 returns-4 c = rw (c .enum-told4 .given .1)
 
-returns-5 : tie.Need-returns-5
-unfolding deletionPaper
-returns-5 c = rw (c .enum-told5 .given .1)
-
 pub of-deletion-spec : {M : Type 1} → statement M
 of-deletion-spec =
     tie.close
@@ -48,9 +41,7 @@ of-deletion-spec =
     enum-told-2
     enum-told-3
     enum-told-4
-    enum-told-5
     returns
     returns-2
     returns-3
-    returns-4
-    returns-5)
+    returns-4)

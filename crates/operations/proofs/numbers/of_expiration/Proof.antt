@@ -20,9 +20,6 @@ enum-told-4 c = search needs
 enum-told-5 : tie.Need-enum-told-5
 enum-told-5 c = search needs
 
-enum-told-6 : tie.Need-enum-told-6
-enum-told-6 c = search needs
-
 returns : tie.Need-returns
 unfolding expirationPaper
 returns c = rw (c .enum-told .given .1)
@@ -43,10 +40,6 @@ returns-5 : tie.Need-returns-5
 unfolding expirationPaper
 returns-5 c = rw (c .enum-told5 .given .1)
 
-returns-6 : tie.Need-returns-6
-unfolding expirationPaper
-returns-6 c = rw (c .enum-told6 .given .1)
-
 pub of-expiration-spec : {M : Type 1} → statement M
 of-expiration-spec =
     tie.close
@@ -56,10 +49,8 @@ of-expiration-spec =
     enum-told-3
     enum-told-4
     enum-told-5
-    enum-told-6
     returns
     returns-2
     returns-3
     returns-4
-    returns-5
-    returns-6)
+    returns-5)

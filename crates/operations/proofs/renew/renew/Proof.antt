@@ -19,7 +19,6 @@ use Rattle.operations.proofs.renew.renew.Statement.{statement}
 use Rattle.operations.proofs.renew.renew.Tie as tie
 use Rattle.operations.proofs.renew.renew.Reads as reads
 use Rattle.operations.proofs.renew.renew.Lts as lts
-use Rattle.operations.proofs.renew.close.Reads as close-reads
 use Rattle.operations.proofs.renew.extend.Reads as extend-reads
 use Rattle.operations.proofs.renew.judge.Reads as judge-reads
 use Rattle.operations.proofs.renew.place_of.Reads as place-of-reads
@@ -96,15 +95,12 @@ add-next c =
     let a = getD (p .args .t1 .active) (c .before .before .before .before .before .before .place-of .result) blankActive in
     omega (arith, laws.can-rise (p .args .t1 .revision) (p .args .expires) (p .args .now) a (sym (c .before .before .before .judge .ensures) ∙ c .before .enum-told2 .given .1), last-fits p)
 
-close-requires : tie.Need-close-requires
-close-requires c κs = search needs
-
 returns-4 : tie.Need-returns-4
 unfolding blankActive
 returns-4 c =
-    let f = c .before .before .before .before .before .before in
+    let f = c .before .before .before .before .before in
     let b = f .before .before in
-    c .close .ensures ∙ laws.closing _ _ _ _ _ _ (tested b) (tidy b) _ (f .before .place-of .ensures) (f .if1 .left) _ (c .before .before .before .before .judge .ensures) (c .before .before .enum-told2 .given .1) (order b) _ (c .before .extend .ensures)
+    laws.done _ _ _ _ _ _ (tested b) (tidy b) _ (f .before .place-of .ensures) (f .if1 .left) _ (c .before .before .before .judge .ensures) (c .before .enum-told2 .given .1) (order b) _ (c .extend .ensures)
 
 pub renew-spec : {M : Type 1} → statement M
 renew-spec =
@@ -125,5 +121,4 @@ renew-spec =
     mul-x
     element-set-from-x
     add-next
-    close-requires
     returns-4)
