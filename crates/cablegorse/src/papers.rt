@@ -13,88 +13,55 @@ ghost use Rattle.locks.specs.Locks.{updatePaper, droppingPaper};
 ghost use Rattle.cablegorse.specs.Telling.{toldOf, readingTold, namedTold, classNumber};
 ghost use Rattle.cablegorse.specs.Changes.{isGone};
 
-pub(crate) fn none(number: u32) -> Told
-    ensures { λ r. ⌜ r ≡ toldOf (paper number []) ⌝ }
+// A number and its first values; the others are zero.
+fn told(number: u32, count: u32, a: u64, b: u64, c: u64, d: u64, e: u64) -> Told
+    ensures { λ r. ⌜ r ≡ record { number = number; count = count; v0 = a; v1 = b; v2 = c; v3 = d; v4 = e } ⌝ }
 {
     Told {
         number,
-        count: 0,
-        v0: 0,
-        v1: 0,
-        v2: 0,
-        v3: 0,
-        v4: 0,
-    }
-}
-
-pub(crate) fn one(number: u32, a: u64) -> Told
-    ensures { λ r. ⌜ r ≡ toldOf (paper number (a ∷ [])) ⌝ }
-{
-    Told {
-        number,
-        count: 1,
-        v0: a,
-        v1: 0,
-        v2: 0,
-        v3: 0,
-        v4: 0,
-    }
-}
-
-pub(crate) fn two(number: u32, a: u64, b: u64) -> Told
-    ensures { λ r. ⌜ r ≡ toldOf (paper number (a ∷ (b ∷ []))) ⌝ }
-{
-    Told {
-        number,
-        count: 2,
-        v0: a,
-        v1: b,
-        v2: 0,
-        v3: 0,
-        v4: 0,
-    }
-}
-
-pub(crate) fn three(number: u32, a: u64, b: u64, c: u64) -> Told
-    ensures { λ r. ⌜ r ≡ toldOf (paper number (a ∷ (b ∷ (c ∷ [])))) ⌝ }
-{
-    Told {
-        number,
-        count: 3,
-        v0: a,
-        v1: b,
-        v2: c,
-        v3: 0,
-        v4: 0,
-    }
-}
-
-pub(crate) fn four(number: u32, a: u64, b: u64, c: u64, d: u64) -> Told
-    ensures { λ r. ⌜ r ≡ toldOf (paper number (a ∷ (b ∷ (c ∷ (d ∷ []))))) ⌝ }
-{
-    Told {
-        number,
-        count: 4,
-        v0: a,
-        v1: b,
-        v2: c,
-        v3: d,
-        v4: 0,
-    }
-}
-
-pub(crate) fn five(number: u32, a: u64, b: u64, c: u64, d: u64, e: u64) -> Told
-    ensures { λ r. ⌜ r ≡ toldOf (paper number (a ∷ (b ∷ (c ∷ (d ∷ (e ∷ [])))))) ⌝ }
-{
-    Told {
-        number,
-        count: 5,
+        count,
         v0: a,
         v1: b,
         v2: c,
         v3: d,
         v4: e,
     }
+}
+
+pub(crate) fn none(number: u32) -> Told
+    ensures { λ r. ⌜ r ≡ toldOf (paper number []) ⌝ }
+{
+    told(number, 0, 0, 0, 0, 0, 0)
+}
+
+pub(crate) fn one(number: u32, a: u64) -> Told
+    ensures { λ r. ⌜ r ≡ toldOf (paper number (a ∷ [])) ⌝ }
+{
+    told(number, 1, a, 0, 0, 0, 0)
+}
+
+pub(crate) fn two(number: u32, a: u64, b: u64) -> Told
+    ensures { λ r. ⌜ r ≡ toldOf (paper number (a ∷ (b ∷ []))) ⌝ }
+{
+    told(number, 2, a, b, 0, 0, 0)
+}
+
+pub(crate) fn three(number: u32, a: u64, b: u64, c: u64) -> Told
+    ensures { λ r. ⌜ r ≡ toldOf (paper number (a ∷ (b ∷ (c ∷ [])))) ⌝ }
+{
+    told(number, 3, a, b, c, 0, 0)
+}
+
+pub(crate) fn four(number: u32, a: u64, b: u64, c: u64, d: u64) -> Told
+    ensures { λ r. ⌜ r ≡ toldOf (paper number (a ∷ (b ∷ (c ∷ (d ∷ []))))) ⌝ }
+{
+    told(number, 4, a, b, c, d, 0)
+}
+
+pub(crate) fn five(number: u32, a: u64, b: u64, c: u64, d: u64, e: u64) -> Told
+    ensures { λ r. ⌜ r ≡ toldOf (paper number (a ∷ (b ∷ (c ∷ (d ∷ (e ∷ [])))))) ⌝ }
+{
+    told(number, 5, a, b, c, d, e)
 }
 
 pub(crate) fn of_reading(why: Reading) -> Told

@@ -9,7 +9,9 @@ use mathlib.Core.Option.{Option, none, some}
 use Prim.Native.Nat.{ℕ}
 use lib.Dec.{ltb}
 use lib.ListN.{length}
+use Rattle.lists.specs.Tests.{_and_}
 use Rattle.lists.specs.Lists.{any, find}
+use Rattle.lists.proofs.Loops.{filter-none}
 use Rattle.ids.specs.declared.LockId.{LockId}
 use Rattle.state.specs.declared.ActiveLock.{ActiveLock}
 use Rattle.state.specs.declared.LockState.{LockState}
@@ -108,13 +110,15 @@ module _ (s : LockState) (t : s ≡ stateOf (modelOf s)) (e : brokenRule s ≡ S
   acknowledge-agrees true n = refl
   acknowledge-agrees false n = left _
 
-  -- 8 tells no list
-  shed-agrees : (b last : Bool) (ids : List LockId) (n : Model)
+  -- 8 tells no list; where nothing lapses there is none
+  shed-agrees : (b last : Bool) (ids : List LockId) (n : Model) → (b ≡ false → ids ≡ [])
       → byExpiry (cond b (cond last (shed expiry.RevisionOverflow [] (stateOf n)) (shed expiry.Done ids (stateOf n))) (shed expiry.Done [] s))
-      ≡ performed (O.DefunctsExpired (cond b (cond last expiry.RevisionOverflow expiry.Done) expiry.Done)) [] (cond b (cond last [] ids) []) (stateOf (cond b n (modelOf s)))
-  shed-agrees true true ids n = refl
-  shed-agrees true false ids n = refl
-  shed-agrees false last ids n = left _
+      ≡ performed (O.DefunctsExpired (cond (b and last) expiry.RevisionOverflow expiry.Done)) [] (cond last [] ids) (stateOf (cond b n (modelOf s)))
+  unfolding _and_
+  shed-agrees true true ids n e = refl
+  shed-agrees true false ids n e = refl
+  shed-agrees false true ids n e = left _
+  shed-agrees false false ids n e = left _ ∙ ap (λ (l : List LockId). performed (O.DefunctsExpired expiry.Done) [] l (stateOf (modelOf s))) (sym (e refl))
 
   step-agrees : (r : Request) (ws : List ℕ)
       → performOn s r ws
@@ -138,6 +142,7 @@ module _ (s : LockState) (t : s ≡ stateOf (modelOf s)) (e : brokenRule s ≡ S
   step-agrees (ExpireDefunct now) ws =
       ap byExpiry (expire-exactly s e now)
       ∙ shed-agrees (any (lapsed now) (modelOf s .defunct)) (atLast (s .revision)) (idsOfEntries (lapsedOf now (modelOf s))) (shedIn (modelOf s) (removeAll (lapsedOf now (modelOf s)) (modelOf s .defunct)))
+      (λ n. ap idsOfEntries (filter-none (lapsed now) (modelOf s .defunct) n))
 
 -- of an accepted state whose arrays have their lengths
 module _ (s : LockState) (la : length (s .active) ≡ 64) (ld : length (s .defunct) ≡ 128) (e : brokenRule s ≡ Sound) where

@@ -8,6 +8,7 @@ use mathlib.Core.Option.{Option, none, some}
 use Prim.Native.Nat.{ℕ}
 use lib.Dec.{ltb}
 use lib.ListN.{length}
+use Rattle.lists.specs.Tests.{_and_}
 use Rattle.lists.specs.Lists.{any, find}
 use Rattle.lists.specs.Places.{inPlaces}
 use Rattle.ids.specs.declared.LockId.{LockId}
@@ -71,7 +72,7 @@ abbrev pub judgeAcknowledge : Model → LockId → Acknowledgement
 judgeAcknowledge m i = cond (any (hasIdD i) (m .defunct)) (cond (atLast (m .revision)) acknowledgement.RevisionOverflow acknowledgement.Done) acknowledgement.Absent
 
 abbrev pub judgeExpiry : Model → ℕ → DefunctExpiry
-judgeExpiry m now = cond (any (lapsed now) (m .defunct)) (cond (atLast (m .revision)) expiry.RevisionOverflow expiry.Done) expiry.Done
+judgeExpiry m now = cond (any (lapsed now) (m .defunct) and atLast (m .revision)) expiry.RevisionOverflow expiry.Done
 
 unfoldable pub outcomeIn : Limits → Model → Op → Outcome
 outcomeIn k m (insertActive y) = O.Inserted (judgeInsert k m (normal y))
@@ -111,4 +112,4 @@ lapsedIn m (delete i) = []
 lapsedIn m (beginExpiration i now) = []
 lapsedIn m (commitReplacement ws y by at) = []
 lapsedIn m (acknowledge i) = []
-lapsedIn m (expireDefunct now) = cond (any (lapsed now) (m .defunct)) (cond (atLast (m .revision)) [] (idsOfEntries (lapsedOf now m))) []
+lapsedIn m (expireDefunct now) = cond (atLast (m .revision)) [] (idsOfEntries (lapsedOf now m))
