@@ -65,7 +65,8 @@ accepted-again s e (commitReplacement ws y by at) = replace-comes (λ r. brokenR
 accepted-again s e (acknowledge i) = acknowledge-comes (λ r. brokenRule (r .state) ≡ Sound) s i (λ b. e) (λ b g. g)
 accepted-again s e (expireDefunct now) = expire-defunct-comes (λ r. brokenRule (r .state) ≡ Sound) s now (λ b. e) (λ b l g. g)
 
--- 02, C-21: "after renewal, deletion, acknowledgement and both expiries this closing check can't fail"
+-- 02, C-21: "after renewal, deletion, acknowledgement and both expiries this closing check can't fail". It can't after the
+-- three others either (accepted-again): `shortened` says of which operations it is asked here
 pub closing-idle : (s : LockState) → brokenRule s ≡ Sound → (o : Op) → Yes (shortened o) → isSound (brokenRule (stepOn s o)) ≡ true
 closing-idle s e o h = ap isSound (accepted-again s e o)
 
