@@ -1,19 +1,21 @@
 -- Active locks that go: the turns of the loops over a tree and over the roots, by places, and the locks at the places.
 -- Assumes nothing.
 use mathlib.Core.Bool.{Bool, true, false, cond}
-use mathlib.Core.List.{List, [], _∷_, _++_, map, append-assoc, append-nil, List·Memᴰ·append-cases, List·Memᴰ·not-nil, List·Memᴰ·eq-of-singleton}
+use mathlib.Core.List.{List, [], _∷_, _++_, map, append-assoc, append-nil, List·Memᴰ·head, List·Memᴰ·tail, List·Memᴰ·append-cases, List·Memᴰ·not-nil, List·Memᴰ·eq-of-singleton}
 use mathlib.Core.Logic.{_⊎_, inl, inr}
 use mathlib.Core.Path.{_≡_, refl, sym, ap, subst, _∙_}
 use Prim.Native.Nat.{ℕ, zero, suc, _+_, _-_, _≤_, _<_}
 use native.Mathlib.Numerals.{add-one}
 use native.Mathlib.Omega.{arith}
+use borrow.Author.Tests.{leb-true, le-leb}
+use lib.Dec.{leb}
 use lib.ListN.{length, getD, set, take, replicate, length-append, length-replicate, length-take, length-map}
 use lib.Seq.{take-suc, getD-take}
-use Rattle.lists.specs.Tests.{_or_, non}
-use Rattle.lists.specs.Lists.{any, filter, Mem}
+use Rattle.lists.specs.Tests.{_or_, non, Yes}
+use Rattle.lists.specs.Lists.{any, filter, Mem, from, ascending}
 use Rattle.lists.specs.Places.{inPlaces, Holds}
-use Rattle.lists.proofs.Tests.{non-t, non-f}
-use Rattle.lists.proofs.Lists.{filter→}
+use Rattle.lists.proofs.Tests.{non-t, non-f, and-l, and-i}
+use Rattle.lists.proofs.Lists.{filter→, from-filter, rest}
 use Rattle.lists.proofs.Places.{mem-at}
 use Rattle.lists.proofs.Loops.{push, keep-yes, keep-no, filter-split, map-more}
 use Rattle.state.specs.declared.ActiveLock.{ActiveLock}
@@ -99,10 +101,11 @@ module _ (s : Places) (h : Sorting s) where
   pub gone-start : Holds 64 0 (halvesOf s .gone ++ []) (s .went) (s .gone)
   gone-start = rw (append-nil (halvesOf s .gone)) (sym (ap (λ (x : Places). x .went) (h .same)), sym gone-count)
 
--- few enough, and each one of 64
+-- few enough, each one of 64, and those that stay in their order
 record Fine (h : Halves) : Type 0 where
   few : length (h .kept) + length (h .gone) ≤ 64
   stays : Low (h .kept)
+  rises : Yes (ascending (λ j. j) (h .kept))
   goes : Low (h .gone)
 
 pub halves-back : (h : Halves) → halvesOf (placesOf h) ≡ h
@@ -113,16 +116,18 @@ sorting-of h f = record {
   room = f .few;
   same = ap placesOf (halves-back h);
   stays = rw (back 64 0 (h .kept)) (f .stays);
+  rises = rw (back 64 0 (h .kept)) (f .rises);
   goes = rw (back 64 0 (h .gone)) (f .goes);
 }
 
 fine-of : (s : Places) → Sorting s → Fine (halvesOf s)
-fine-of s h = record { few = omega (arith, left-count s h, gone-count s h, h .room); stays = h .stays; goes = h .goes }
+fine-of s h = record { few = omega (arith, left-count s h, gone-count s h, h .room); stays = h .stays; rises = h .rises; goes = h .goes }
 
 take-fine : (q : ℕ → Bool) (h : Halves) → Fine h → Fine (takeHalves q h)
 take-fine q h f = record {
   few = omega (arith, f .few, filter-split q (h .kept), length-append (h .gone) (filter q (h .kept)));
   stays = λ j m. f .stays j (filter→ (λ i. non (q i)) (h .kept) m .0);
+  rises = from-filter (λ j. j) (λ i. non (q i)) 0 (h .kept) (f .rises);
   goes = λ j m. elim (List·Memᴰ·append-cases (h .gone) m) as (λ w. j < 64) [ inl u ↦ f .goes j u | inr u ↦ f .stays j (filter→ q (h .kept) u .0) ];
 }
 
@@ -145,15 +150,38 @@ up-long : (n : ℕ) → length (upTo n) ≡ n
 up-long zero = refl
 up-long (suc n) = length-append (upTo n) (n ∷ []) ∙ omega (arith, up-long n)
 
-up-low : (n : ℕ) → n ≤ 64 → Low (upTo n)
-up-low zero h j m = absurd (List·Memᴰ·not-nil m)
-up-low (suc n) h j m = elim (List·Memᴰ·append-cases (upTo n) m) as (λ w. j < 64) [ inl u ↦ up-low n (omega arith) j u | inr u ↦ omega (arith, List·Memᴰ·eq-of-singleton u) ]
+up-below : (n j : ℕ) → Mem j (upTo n) → j < n
+up-below zero j m = absurd (List·Memᴰ·not-nil m)
+up-below (suc n) j m = elim (List·Memᴰ·append-cases (upTo n) m) as (λ w. j < suc n) [ inl u ↦ omega (arith, up-below n j u) | inr u ↦ omega (arith, List·Memᴰ·eq-of-singleton u) ]
+
+first-over : (b k : ℕ) (ks : List ℕ) → Yes (from (λ j. j) b (k ∷ ks)) → b ≤ k
+first-over b k ks t = leb-true b k (and-l (leb b k) (from (λ j. j) (suc k) ks) t)
+
+-- a number over all before it at the end of what rises
+rises-more : (b x : ℕ) (ks : List ℕ) → Yes (from (λ j. j) b ks) → b ≤ x → ((j : ℕ) → Mem j ks → j < x) → Yes (from (λ j. j) b (ks ++ (x ∷ [])))
+rises-more b x [] t h g = and-i (leb b x) true (le-leb b x h) refl
+rises-more b x (k ∷ ks) t h g =
+    and-i (leb b k) (from (λ j. j) (suc k) (ks ++ (x ∷ []))) (le-leb b k (first-over b k ks t))
+    (rises-more (suc k) x ks (rest (λ j. j) b k ks t) (g k (List·Memᴰ·head refl)) (λ j m. g j (List·Memᴰ·tail m)))
+
+up-rises : (n : ℕ) → Yes (ascending (λ j. j) (upTo n))
+up-rises zero = refl
+up-rises (suc n) = rises-more 0 n (upTo n) (up-rises n) (omega arith) (up-below n)
+
+-- what rises has at each place no less than the place
+rises-ahead : (b : ℕ) (ks : List ℕ) → Yes (from (λ j. j) b ks) → (i : ℕ) → i < length ks → b + i ≤ getD ks i 0
+rises-ahead b [] t i h = omega arith
+rises-ahead b (k ∷ ks) t zero h = omega (arith, first-over b k ks t)
+rises-ahead b (k ∷ ks) t (suc i) h = omega (arith, first-over b k ks t, rises-ahead (suc k) ks (rest (λ j. j) b k ks t) i (omega arith))
+
+pub ahead-of : (ks : List ℕ) (n i : ℕ) → Yes (ascending (λ j. j) (take n ks)) → i < n → n ≤ length ks → i ≤ getD ks i 0
+ahead-of ks n i t h w = subst (λ (j : ℕ). i ≤ j) (getD-take n ks i 0 h) (omega (arith, rises-ahead 0 (take n ks) t i (omega (arith, length-take n ks))))
 
 pub up-more : (i : ℕ) → upTo (i + 1) ≡ upTo i ++ (i ∷ [])
 up-more i = ap upTo (add-one i)
 
 start-fine : (n : ℕ) → n ≤ 64 → Fine (startHalves n)
-start-fine n h = record { few = omega (arith, up-long n); stays = up-low n h; goes = λ j m. absurd (List·Memᴰ·not-nil m) }
+start-fine n h = record { few = omega (arith, up-long n); stays = λ j m. omega (arith, up-below n j m); rises = up-rises n; goes = λ j m. absurd (List·Memᴰ·not-nil m) }
 
 -- ---- one tree, step by step
 module _ (s a : Places) (l : List ActiveLock) (r : ActiveLock) (c : Sorting s) (p : a ≡ placesOf (takeHalves (picksAt 0 l r) (halvesOf s))) where

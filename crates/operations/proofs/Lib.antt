@@ -1,5 +1,6 @@
 -- What other crates' proofs cite of the operations, and document 01's traps.
 
+pub mod Over
 pub mod Flags
 pub mod Going
 pub mod Leaving

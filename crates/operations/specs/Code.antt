@@ -142,6 +142,7 @@ pub record Sorting (s : Places) : Type 0 where
   pub room : s .left + s .gone ≤ 64
   pub same : placesOf (halvesOf s) ≡ s
   pub stays : Low (halvesOf s .kept)
+  pub rises : Yes (ascending (λ j. j) (halvesOf s .kept))
   pub goes : Low (halvesOf s .gone)
 
 -- ---- the table of defunct entries

@@ -8,10 +8,9 @@ ghost use mathlib.Core.Path.{_≡_};
 ghost use Prim.Native.Nat.{_≤_};
 ghost use lib.ListN.{take};
 ghost use Rattle.lists.specs.Lists.{any};
-ghost use Rattle.lists.specs.Places.{inPlaces};
-ghost use Rattle.state.specs.Locks.{hasId, blankActive};
+ghost use Rattle.state.specs.Locks.{hasId};
 ghost use Rattle.operations.specs.Trees.{childOf, inTree, treeParts, rootsParts, startParts};
-ghost use Rattle.operations.specs.Code.{picks, Placed, splitOf, partsIn, lockAt, Low, Sorting, startHalves, takeHalves, treeHalves, rootHalves, picksAt, halvesOf, placesOf};
+ghost use Rattle.operations.specs.Code.{picks, Placed, splitOf, partsIn, lockAt, Sorting, startHalves, takeHalves, treeHalves, rootHalves, picksAt, halvesOf, placesOf};
 
 // The active locks: those that stay, and those that went, in the order of their going.
 pub(crate) struct Split {
@@ -139,37 +138,36 @@ fn all_places(n: usize) -> Places
     }
 }
 
-// The locks at the first n of these places.
-fn gathered(
-    locks: [ActiveLock; LockState::ACTIVE],
-    places: [usize; LockState::ACTIVE],
-    n: usize,
-) -> [ActiveLock; LockState::ACTIVE]
-    requires { ⌜ (n ≤ 64) × Low (take n places) ⌝ }
-    ensures { λ x. ⌜ x ≡ inPlaces 64 blankActive (map (lockAt locks) (take n places)) ⌝ }
-{
-    let b = state::blank_active();
-    let mut out = [b; LockState::ACTIVE];
-    let mut i: usize = 0;
-    while i < n {
-        let j = places[i];
-        out[i] = locks[j];
-        i += 1;
-    }
-    out
-}
-
-fn moved(s: Places, locks: [ActiveLock; LockState::ACTIVE]) -> Split
+// Within the one list that came in: those that went are read out of it first; then each place takes its lock, from itself or
+// from a later place, and the places left over are blanked. One function, since a list that is handed on is copied.
+fn moved(s: Places, mut locks: [ActiveLock; LockState::ACTIVE]) -> Split
     requires { ⌜ Sorting s ⌝ }
     ensures { λ x. ⌜ x ≡ splitOf (partsIn locks (halvesOf s)) ⌝ }
 {
-    let kept = s.kept;
-    let went = s.went;
+    let b = state::blank_active();
+    let mut removed = [b; LockState::ACTIVE];
+    let mut g: usize = 0;
+    while g < s.gone {
+        let j = s.went[g];
+        removed[g] = locks[j];
+        g += 1;
+    }
+    let mut i: usize = 0;
+    while i < s.left {
+        let j = s.kept[i];
+        let y = locks[j];
+        locks[i] = y;
+        i += 1;
+    }
+    while i < LockState::ACTIVE {
+        locks[i] = b;
+        i += 1;
+    }
     Split {
         left: s.left,
-        kept: gathered(locks, kept, s.left),
+        kept: locks,
         gone: s.gone,
-        removed: gathered(locks, went, s.gone),
+        removed,
     }
 }
 
