@@ -12,7 +12,7 @@ ghost use Rattle.lists.specs.Lists.{any};
 ghost use Rattle.lists.specs.Places.{inPlaces};
 ghost use Rattle.state.specs.Locks.{blankDefunct};
 ghost use Rattle.operations.specs.Defuncts.{removeD, removeAll, superseded, supersede, toDefunct, enterAll};
-ghost use Rattle.operations.specs.Code.{flagged, unflagged, tookOver, handOn, entriesOf, tableOf, Laid, Ranked};
+ghost use Rattle.operations.specs.Code.{flagged, tookOver, entriesOf, tableOf, Laid, Ranked};
 
 // Room for every defunct entry, and for every active lock beside them.
 pub(crate) const PLACES: usize = LockState::ACTIVE + LockState::DEFUNCT;
@@ -73,16 +73,15 @@ fn took_over(e: DefunctLock, d: DefunctLock) -> DefunctLock
     }
 }
 
-// Each entry that goes, ascending, hands its target and holder on to those that point at it.
-fn handed_on(
-    entries: [DefunctLock; PLACES],
-    n: usize,
-    goes: [bool; PLACES],
-) -> [DefunctLock; PLACES]
-    requires { ⌜ n ≤ 192 ⌝ }
-    ensures { λ r. ⌜ take n r ≡ handOn goes n (take n entries) ⌝ }
+// The marked entries go, within one list, in one function for the same reason as trees::moved: each, ascending, hands its
+// target and holder on to those that point at it; then those that stay are moved down, and the places left over are blanked.
+pub(crate) fn shed(table: Table, goes: [bool; PLACES]) -> Table
+    requires { ⌜ Ranked table ⌝ }
+    ensures { λ r. ⌜ r ≡ tableOf (removeAll (flagged (take (table .count) goes) (entriesOf table)) (entriesOf table)) ⌝ }
 {
-    let mut out = entries;
+    let n = table.count;
+    let b = state::blank_defunct();
+    let mut out = table.entries;
     let mut i: usize = 0;
     while i < n {
         let k = i;
@@ -100,40 +99,26 @@ fn handed_on(
             }
         }
     }
-    out
-}
-
-// Those that stay are written into a fresh table.
-fn sifted(entries: [DefunctLock; PLACES], n: usize, goes: [bool; PLACES]) -> Table
-    requires { ⌜ n ≤ 192 ⌝ }
-    ensures { λ r. ⌜ r ≡ tableOf (unflagged (take n goes) (take n entries)) ⌝ }
-{
-    let b = state::blank_defunct();
-    let mut out = [b; PLACES];
     let mut w: usize = 0;
-    let mut i: usize = 0;
-    while i < n {
-        let k = i;
-        i += 1;
+    let mut q: usize = 0;
+    while q < n {
+        let k = q;
+        q += 1;
         if !goes[k] {
-            out[w] = entries[k];
+            let d = out[k];
+            out[w] = d;
             w += 1;
         }
+    }
+    let mut z = w;
+    while z < PLACES {
+        out[z] = b;
+        z += 1;
     }
     Table {
         count: w,
         entries: out,
     }
-}
-
-// The marked entries go.
-pub(crate) fn shed(table: Table, goes: [bool; PLACES]) -> Table
-    requires { ⌜ Ranked table ⌝ }
-    ensures { λ r. ⌜ r ≡ tableOf (removeAll (flagged (take (table .count) goes) (entriesOf table)) (entriesOf table)) ⌝ }
-{
-    let entries = table.entries;
-    let rest = handed_on(entries, table.count, goes);
-    sifted(rest, table.count, goes)
 }
 
 // The entry with this id goes, where there is one.
