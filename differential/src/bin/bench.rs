@@ -1,6 +1,6 @@
 // SPDX-License-Identifier: Apache-2.0
-//! Times the by-feed boundary beside the original, in one run: each operation at four sizes, a
-//! feed of 65,536 bytes, and the stack that a call needs.
+//! Times the by-feed boundary beside the original, in one run: each operation at four sizes, and
+//! a feed of 65,536 bytes. For bench/stack it makes one call in a thread of a given size.
 //!
 //! Ours is `cablegorse_apply` whole: image read and tested, record read, operation, next image
 //! and removed locks written. The original's is the operation alone on its own types, which
@@ -9,12 +9,14 @@
 //!
 //! ```text
 //! bench [MILLISECONDS A CELL]
+//! bench stack                 names the calls, with their answers at the three sizes
+//! bench stack BYTES CALL      makes one, by its place from 0, in a thread of so many bytes
 //! ```
 
 use std::{
     env,
     hint::black_box,
-    process::{Command, ExitCode},
+    process::ExitCode,
     thread,
     time::{Duration, Instant},
 };
@@ -27,7 +29,7 @@ use oracle::{
     bench::{operations, state},
     generate::{self, Case, Profile, Rng},
     judge::Judge,
-    model::{Id, IdList, Operation, Scope, State},
+    model::{Coverage, Id, IdList, Operation, Scope, State},
     original::{Call, Original},
     wire,
 };
@@ -39,19 +41,21 @@ const FEED_LIMIT: usize = 65_536;
 
 fn main() -> ExitCode {
     let words: Vec<String> = env::args().skip(1).collect();
-    if let [name, bytes, row] = &words[..]
-        && name == "stack"
+    let words: Vec<&str> = words.iter().map(String::as_str).collect();
+    if words == ["stack"] {
+        return name_calls();
+    }
+    if let ["stack", bytes, row] = words[..]
         && let (Ok(bytes), Ok(row)) = (bytes.parse(), row.parse())
     {
         return on_a_stack_of(bytes, row);
     }
     let Ok(cell) = words.first().map_or(Ok(300), |word| word.parse()) else {
-        eprintln!("bench [MILLISECONDS A CELL]");
+        eprintln!("bench [MILLISECONDS A CELL], bench stack [BYTES CALL]");
         return ExitCode::from(2);
     };
     operations_table(Duration::from_millis(cell));
     feeds(Duration::from_millis(cell * 4));
-    stack();
     ExitCode::SUCCESS
 }
 
@@ -290,13 +294,60 @@ fn feeds(time: Duration) {
     println!();
 }
 
-/// One operation on the largest states and a small one, in a thread with this much stack.
-fn on_a_stack_of(bytes: usize, row: usize) -> ExitCode {
-    let mut cells: Vec<Ours> = Vec::new();
-    for (active, defunct) in [(63, 128), (64, 128), (1, 0)] {
-        let operations = operations(active, defunct);
-        cells.extend(operations.get(row).map(|o| Ours::new(active, defunct, o)));
+/// The timed operations, then two that supersede an entry: they go deepest.
+fn deep(active: usize, defunct: usize) -> Vec<(&'static str, Operation)> {
+    let timed = operations(active, defunct);
+    let mut rows: Vec<_> = timed.iter().map(|o| (o.name(), o.clone())).collect();
+    for operation in timed {
+        let name = match operation {
+            Operation::InsertActive { .. } => "insert_active, superseding",
+            Operation::CommitReplacement { .. } => "commit_replacement, superseding",
+            _ => continue,
+        };
+        rows.push((name, superseding(operation, active, defunct)));
     }
+    rows
+}
+
+/// The same by the subject of a defunct entry, over that entry's ECU too.
+fn superseding(mut operation: Operation, active: usize, defunct: usize) -> Operation {
+    let entry = state(active, defunct).defunct.pop();
+    if let Operation::InsertActive { lock } | Operation::CommitReplacement { lock, .. } =
+        &mut operation
+        && let Some(entry) = entry
+        && let (Scope::Ecu(own), Scope::Ecu(shed)) = (lock.lock.scope, entry.lock.scope)
+    {
+        lock.lock.scope = Scope::Group(1);
+        lock.lock.coverage = Coverage::of(&[own, shed]);
+        lock.lock.subject = entry.lock.subject;
+    }
+    operation
+}
+
+/// One operation on the largest states and a small one.
+fn cells(row: usize) -> Vec<Ours> {
+    let mut cells = Vec::new();
+    for (active, defunct) in [(63, 128), (64, 128), (1, 0)] {
+        if let Some((_, operation)) = deep(active, defunct).get(row) {
+            cells.push(Ours::new(active, defunct, operation));
+        }
+    }
+    cells
+}
+
+/// A call that is refused may not go as deep as one that is done.
+fn name_calls() -> ExitCode {
+    for (row, (name, _)) in deep(1, 0).iter().enumerate() {
+        let mut cells = cells(row);
+        let answers: Vec<String> = cells.iter_mut().map(|c| c.call().to_string()).collect();
+        println!("{name}: {}", answers.join(", "));
+    }
+    ExitCode::SUCCESS
+}
+
+/// The calls of one row in a thread with this much stack.
+fn on_a_stack_of(bytes: usize, row: usize) -> ExitCode {
+    let mut cells = cells(row);
     let work = move || cells.iter_mut().map(Ours::call).sum::<u32>();
     let Ok(thread) = thread::Builder::new().stack_size(bytes).spawn(work) else {
         return ExitCode::FAILURE;
@@ -304,37 +355,5 @@ fn on_a_stack_of(bytes: usize, row: usize) -> ExitCode {
     match thread.join() {
         Ok(_) => ExitCode::SUCCESS,
         Err(_) => ExitCode::FAILURE,
-    }
-}
-
-/// The smallest stack that works for each operation, in steps of 4 KB, each tried in a process of its own.
-fn stack() {
-    let Ok(myself) = env::current_exe() else {
-        return println!("stack: own path not known");
-    };
-    println!("stack, KB: the smallest thread in which a call works at 63/128, 64/128 and 1/0");
-    for (row, operation) in operations(1, 0).iter().enumerate() {
-        let lives = |pages: usize| {
-            Command::new(&myself)
-                .args(["stack", &(pages * 4096).to_string(), &row.to_string()])
-                .stderr(std::process::Stdio::null())
-                .status()
-                .is_ok_and(|status| status.success())
-        };
-        // A thread has 16 KB at least, whatever is asked for.
-        let (mut dies, mut works) = (4, 4096);
-        if !lives(works) {
-            println!("{:<22}more than 16 MB", operation.name());
-            continue;
-        }
-        while works - dies > 1 {
-            let middle = (dies + works) / 2;
-            if lives(middle) {
-                works = middle;
-            } else {
-                dies = middle;
-            }
-        }
-        println!("{:<22}{}", operation.name(), works * 4);
     }
 }
