@@ -1,11 +1,11 @@
 -- A list written over the first places of an array, element by element, while later places of the same array are read.
 -- Assumes nothing.
-use mathlib.Core.Path.{_≡_, refl, sym, ap, _∙_}
+use mathlib.Core.Path.{_≡_, sym, ap, _∙_}
 use mathlib.Core.List.{List, [], _∷_, _++_, map, append-assoc, append-nil}
-use Prim.Native.Nat.{ℕ, zero, suc, _+_, _-_, _≤_, _<_}
+use Prim.Native.Nat.{ℕ, suc, _+_, _-_, _≤_, _<_}
 use native.Mathlib.Numerals.{add-one}
 use native.Mathlib.Omega.{arith}
-use lib.ListN.{length, getD, set, take, drop, replicate, take-append-drop, length-append, length-map, length-take, length-drop, length-replicate, replicate-append-replicate}
+use lib.ListN.{length, getD, set, take, drop, replicate, take-append-drop, length-append, length-take, length-drop, length-replicate, replicate-append-replicate}
 use lib.Seq.{drop-cons, drop-length, set-at, take-at, take-suc, getD-append-add, getD-drop, length-take-le}
 use Rattle.lists.proofs.Loops.{map-more}
 use Rattle.lists.specs.Places.{inPlaces}
@@ -33,8 +33,8 @@ module _ {A : Type 0} where
       ap (λ (t : List A). set t w (getD out k d)) e ∙ ap (λ (x : A). set (over f m) w x) (ap (λ (t : List A). getD t k d) e ∙ over-read f m k d (omega arith))
       ∙ over-push f m (getD m k d) d w n l ∙ ap (λ (t : List A). over t m) (sym q)
 
-  pub over-long : (f a : List A) → length f ≤ length a → length (over f a) ≡ length a
-  over-long f a h = omega (arith, length-append f (drop (length f) a), length-drop (length f) a)
+  pub over-long : (f l m : List A) (k : ℕ) → m ≡ over f l → length l ≡ k → length f ≤ k → length m ≡ k
+  over-long f l m k e w h = ap length e ∙ omega (arith, length-append f (drop (length f) l), length-drop (length f) l)
 
   -- ---- the places from n on blanked, one by one
   module _ (m : List A) (b : A) (n : ℕ) where

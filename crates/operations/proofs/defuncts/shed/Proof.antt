@@ -1,6 +1,6 @@
 use mathlib.Core.Path.{_≡_, refl, sym, ap, _∙_}
 use mathlib.Core.List.{List}
-use Prim.Native.Nat.{ℕ, _≤_, _<_, _+_, _-_}
+use Prim.Native.Nat.{_≤_, _-_}
 use native.Mathlib.Omega.{arith}
 use borrow.Author.Needs.{needs}
 use borrow.Author.Tests.{not-true, not-false}
@@ -82,10 +82,7 @@ few : (c : At tie.After-loop3) → c .before .loop3 .w ≤ 192
 few c = omega (arith, c .before .loop3 .inv .1, c .before .loop3 .inv .0, start (handed c) .pre .laid .room)
 
 whole : (c : At tie.After-loop3) → length (c .before .loop3 .out) ≡ 192
-whole c =
-    ap length (closed c)
-    ∙ over-long (unflagged (take (start (handed c) .args .table .count) (start (handed c) .args .t2)) (take (start (handed c) .args .table .count) (handed c .before .loop .out))) (handed c .before .loop .out) (omega (arith, front c, few c, handed c .before .loop .inv .1))
-    ∙ handed c .before .loop .inv .1
+whole c = over-long (unflagged (take (start (handed c) .args .table .count) (start (handed c) .args .t2)) (take (start (handed c) .args .table .count) (handed c .before .loop .out))) (handed c .before .loop .out) (c .before .loop3 .out) 192 (closed c) (handed c .before .loop .inv .1) (omega (arith, front c, few c))
 
 blank-defunct-requires : At tie.Need-blank-defunct-requires
 blank-defunct-requires c κs = tt

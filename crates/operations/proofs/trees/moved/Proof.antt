@@ -1,6 +1,6 @@
 use mathlib.Core.Path.{_≡_, refl, sym, ap, _∙_}
 use mathlib.Core.List.{map}
-use Prim.Native.Nat.{ℕ, _≤_, _<_, _+_, _-_}
+use Prim.Native.Nat.{_≤_, _<_, _+_, _-_}
 use native.Mathlib.Omega.{arith}
 use borrow.Author.Needs.{needs}
 use lib.ListN.{length, getD, take, replicate, length-map}
@@ -70,7 +70,7 @@ front : (c : At tie.After-loop2) → length (map (lockAt (start c .args .t2)) (t
 front c = length-map (take (start c .args .t1 .left) (start c .args .t1 .kept)) (lockAt (start c .args .t2)) ∙ length-take-le (start c .args .t1 .left) (start c .args .t1 .kept) (omega (arith, many (start c), small (start c)))
 
 whole : (c : At tie.After-loop2) → length (c .before .loop2 .locks) ≡ 64
-whole c = ap length (closed c) ∙ over-long (map (lockAt (start c .args .t2)) (take (start c .args .t1 .left) (start c .args .t1 .kept))) (start c .args .t2) (omega (arith, front c, long (start c), small (start c))) ∙ long (start c)
+whole c = over-long (map (lockAt (start c .args .t2)) (take (start c .args .t1 .left) (start c .args .t1 .kept))) (start c .args .t2) (c .before .loop2 .locks) 64 (closed c) (long (start c)) (omega (arith, front c, small (start c)))
 
 blank-active-requires : At tie.Need-blank-active-requires
 blank-active-requires c κs = tt
