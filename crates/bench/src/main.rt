@@ -6,6 +6,13 @@ use ids::LockId;
 use image::Spare;
 use image::Writing;
 use operations::acknowledge;
+use operations::answers::Acknowledged;
+use operations::answers::DefunctsExpired;
+use operations::answers::Deleted;
+use operations::answers::Expired;
+use operations::answers::Inserted;
+use operations::answers::Renewed;
+use operations::answers::Replaced;
 use operations::delete;
 use operations::insert;
 use operations::insert_vehicle;
@@ -61,92 +68,122 @@ fn first_entry(s: LockState) -> LockId {
     l.id
 }
 
+// ---- one call of each. Both functions after them call them, so that the compiler leaves each a function of its own, whose
+// frame bench/stack reads.
+fn insert_active(s: LockState) -> Inserted {
+    insert::insert_active(s, new_lock(ScopeKey::Ecu(255)))
+}
+
+fn insert_vehicle(s: LockState) -> Inserted {
+    let none = [0u64; 0];
+    insert_vehicle::insert_vehicle(s, new_lock(ScopeKey::Vehicle), &none)
+}
+
+fn renew(s: LockState) -> Renewed {
+    renew::renew(s, first_id(s), 18446744073709551615, 0, false, 0)
+}
+
+fn delete(s: LockState) -> Deleted {
+    delete::delete(s, first_id(s))
+}
+
+fn begin_expiration(s: LockState) -> Expired {
+    delete::begin_expiration(s, first_id(s), 18446744073709551615)
+}
+
+fn commit_replacement(s: LockState) -> Replaced {
+    let id = first_id(s);
+    let one = [id.hi, id.lo];
+    replace::commit_replacement(s, &one, new_lock(ScopeKey::Ecu(255)), 1, 1)
+}
+
+fn acknowledge_defunct(s: LockState) -> Acknowledged {
+    acknowledge::acknowledge_defunct(s, first_entry(s))
+}
+
+fn expire_defunct(s: LockState) -> DefunctsExpired {
+    acknowledge::expire_defunct(s, 18446744073709551615)
+}
+
 fn changed(s: LockState, what: u8) -> u64 {
     match what {
         2 => {
-            let r = insert::insert_active(s, new_lock(ScopeKey::Ecu(255)));
+            let r = insert_active(s);
             sum(r.state)
         }
         3 => {
-            let none = [0u64; 0];
-            let r = insert_vehicle::insert_vehicle(s, new_lock(ScopeKey::Vehicle), &none);
+            let r = insert_vehicle(s);
             sum(r.state)
         }
         4 => {
-            let r = renew::renew(s, first_id(s), 18446744073709551615, 0, false, 0);
+            let r = renew(s);
             sum(r.state)
         }
         5 => {
-            let r = delete::delete(s, first_id(s));
+            let r = delete(s);
             sum(r.state)
         }
         6 => {
-            let r = delete::begin_expiration(s, first_id(s), 18446744073709551615);
+            let r = begin_expiration(s);
             sum(r.state)
         }
         7 => {
-            let id = first_id(s);
-            let one = [id.hi, id.lo];
-            let r = replace::commit_replacement(s, &one, new_lock(ScopeKey::Ecu(255)), 1, 1);
+            let r = commit_replacement(s);
             sum(r.state)
         }
         8 => {
-            let r = acknowledge::acknowledge_defunct(s, first_entry(s));
+            let r = acknowledge_defunct(s);
             sum(r.state)
         }
         _ => {
-            let r = acknowledge::expire_defunct(s, 18446744073709551615);
+            let r = expire_defunct(s);
             sum(r.state)
         }
     }
 }
 
-// The answer of one call. Since each is called in two places, it stays a function of its own, whose frame bench/stack reads.
 fn answered(s: LockState, what: u8) -> u64 {
     match what {
         2 => {
-            let r = insert::insert_active(s, new_lock(ScopeKey::Ecu(255)));
+            let r = insert_active(s);
             let told = r.told;
             numbers::of_answer(told)
         }
         3 => {
-            let none = [0u64; 0];
-            let r = insert_vehicle::insert_vehicle(s, new_lock(ScopeKey::Vehicle), &none);
+            let r = insert_vehicle(s);
             let told = r.told;
             numbers::of_answer(told)
         }
         4 => {
-            let r = renew::renew(s, first_id(s), 18446744073709551615, 0, false, 0);
+            let r = renew(s);
             let told = r.told;
             numbers::of_renewal(told)
         }
         5 => {
-            let r = delete::delete(s, first_id(s));
+            let r = delete(s);
             let told = r.told;
             let answer = told.answer;
             numbers::of_deletion(answer)
         }
         6 => {
-            let r = delete::begin_expiration(s, first_id(s), 18446744073709551615);
+            let r = begin_expiration(s);
             let told = r.told;
             let answer = told.answer;
             numbers::of_expiration(answer)
         }
         7 => {
-            let id = first_id(s);
-            let one = [id.hi, id.lo];
-            let r = replace::commit_replacement(s, &one, new_lock(ScopeKey::Ecu(255)), 1, 1);
+            let r = commit_replacement(s);
             let told = r.told;
             let answer = told.answer;
             numbers::of_answer(answer)
         }
         8 => {
-            let r = acknowledge::acknowledge_defunct(s, first_entry(s));
+            let r = acknowledge_defunct(s);
             let told = r.told;
             numbers::of_acknowledgement(told)
         }
         _ => {
-            let r = acknowledge::expire_defunct(s, 18446744073709551615);
+            let r = expire_defunct(s);
             let told = r.told;
             let answer = told.answer;
             numbers::of_expiry(answer)
