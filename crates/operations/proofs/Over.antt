@@ -1,13 +1,12 @@
 -- A list written over the first places of an array, element by element, while later places of the same array are read.
 -- Assumes nothing.
 use mathlib.Core.Path.{_≡_, sym, ap, _∙_}
-use mathlib.Core.List.{List, [], _∷_, _++_, map, append-assoc, append-nil}
+use mathlib.Core.List.{List, [], _∷_, _++_, append-assoc, append-nil}
 use Prim.Native.Nat.{ℕ, suc, _+_, _-_, _≤_, _<_}
 use native.Mathlib.Numerals.{add-one}
 use native.Mathlib.Omega.{arith}
 use lib.ListN.{length, getD, set, take, drop, replicate, take-append-drop, length-append, length-take, length-drop, length-replicate, replicate-append-replicate}
-use lib.Seq.{drop-cons, drop-length, set-at, take-at, take-suc, getD-append-add, getD-drop, length-take-le}
-use Rattle.lists.proofs.Loops.{map-more}
+use lib.Seq.{drop-cons, drop-length, set-at, take-at, getD-append-add, getD-drop, length-take-le}
 use Rattle.lists.specs.Places.{inPlaces}
 
 module _ {A : Type 0} where
@@ -71,10 +70,3 @@ module _ {A : Type 0} where
   closed-end f l m out b d n i k e h w q g z o =
       blanking-end m b n out i o (q ∙ sym w) g
       ∙ ap (λ (j : ℕ). inPlaces j b (take n m)) q ∙ ap (λ (x : A). inPlaces k x (take n m)) z ∙ ap (λ (t : List A). inPlaces k d t) (ap (take n) e ∙ take-at f (drop (length f) l) n h)
-
--- one element more of a list, mapped
-pub map-next : {A B : Type 0} (f : A → B) (l : List A) (i : ℕ) (d : A) → i < length l → map f (take (i + 1) l) ≡ map f (take i l) ++ (f (getD l i d) ∷ [])
-map-next f l i d h = ap (λ (n : ℕ). map f (take n l)) (add-one i) ∙ ap (map f) (take-suc l i d h) ∙ map-more f (take i l) (getD l i d)
-
-pub one-longer : {A : Type 0} (f g : List A) (x : A) (w : ℕ) → w ≡ length f → g ≡ f ++ (x ∷ []) → w + 1 ≡ length g
-one-longer f g x w e q = sym (ap length q ∙ length-append f (x ∷ []) ∙ ap (λ (n : ℕ). n + 1) (sym e))

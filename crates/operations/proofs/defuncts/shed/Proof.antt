@@ -6,13 +6,13 @@ use borrow.Author.Needs.{needs}
 use borrow.Author.Tests.{not-true, not-false}
 use lib.ListN.{length, getD, take}
 use Rattle.lists.specs.Places.{inPlaces}
-use Rattle.lists.proofs.Loops.{length-of-mapped}
+use Rattle.lists.proofs.Loops.{length-of-mapped, length-more}
 use Rattle.ids.specs.Order.{sameId}
 use Rattle.state.specs.declared.DefunctLock.{DefunctLock}
 use Rattle.state.specs.Locks.{blankDefunct}
 use Rattle.operations.specs.Defuncts.{redirect}
 use Rattle.operations.specs.Code.{unflagged, handOn}
-use Rattle.operations.proofs.Over.{over, over-long, taken-down, blanking-start, blanking-step, closed-end, one-longer}
+use Rattle.operations.proofs.Over.{over, over-long, taken-down, blanking-start, blanking-step, closed-end}
 use Rattle.operations.proofs.Flags.{mapped, mapped-long, sift-in, sift-out}
 use Rattle.operations.proofs.Leaving.{turn-yes, turn-no, hand-yes, hand-no, shed-all}
 use Rattle.operations.proofs.defuncts.shed.Statement.{statement}
@@ -205,7 +205,7 @@ loop3-again c =
     let p = c .before .before .before .before in
     let m = p .before .loop .out in
     let s = sift-in (start p .args .t2) m (l .q) blankDefunct (omega (arith, marks (start p), start p .pre .laid .room)) (omega (arith, p .before .loop .inv .1, start p .pre .laid .room)) (not-true _ (c .before .if3 .taken)) in
-    (omega arith, omega (arith, l .inv .1), one-longer (unflagged (take (l .q) (start p .args .t2)) (take (l .q) m)) _ (getD m (l .q) blankDefunct) (l .w) (l .inv .2) s, taken-down (unflagged (take (l .q) (start p .args .t2)) (take (l .q) m)) _ m (l .out) blankDefunct (l .w) (l .q) (l .inv .3) (l .inv .2) (l .inv .1) (omega (arith, l .inv .1, p .before .loop .inv .1, start p .pre .laid .room)) s)
+    (omega arith, omega (arith, l .inv .1), length-more (unflagged (take (l .q) (start p .args .t2)) (take (l .q) m)) (l .w) (getD m (l .q) blankDefunct) (l .inv .2) ∙ ap length (sym s), taken-down (unflagged (take (l .q) (start p .args .t2)) (take (l .q) m)) _ m (l .out) blankDefunct (l .w) (l .q) (l .inv .3) (l .inv .2) (l .inv .1) (omega (arith, l .inv .1, p .before .loop .inv .1, start p .pre .laid .room)) s)
 
 loop3-less-2 : At tie.Need-loop3-less-2
 loop3-less-2 c = omega arith

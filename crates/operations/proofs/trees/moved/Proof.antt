@@ -6,10 +6,10 @@ use borrow.Author.Needs.{needs}
 use lib.ListN.{length, getD, take, replicate, length-map}
 use lib.Seq.{length-take-le}
 use Rattle.lists.specs.Places.{inPlaces, Holds}
-use Rattle.lists.proofs.Loops.{length-of-mapped, copy-more}
+use Rattle.lists.proofs.Loops.{length-of-mapped, more, map-more, copy-more}
 use Rattle.state.specs.Locks.{blankActive}
 use Rattle.operations.specs.Code.{lockAt}
-use Rattle.operations.proofs.Over.{over, over-long, taken-down, blanking-start, blanking-step, closed-end, map-next}
+use Rattle.operations.proofs.Over.{over, over-long, taken-down, blanking-start, blanking-step, closed-end}
 use Rattle.operations.proofs.Going.{low-of, ahead-of, split-is}
 use Rattle.operations.proofs.trees.moved.Statement.{statement}
 use Rattle.operations.proofs.trees.moved.Tie as tie
@@ -142,7 +142,7 @@ loop2-again c =
     let o = c .before .before .before .before .before .before .before in
     let l = c .before .before .before .loop2 in
     let e = length-map (take (l .i) (o .args .t1 .kept)) (lockAt (o .args .t2)) ∙ length-take-le (l .i) (o .args .t1 .kept) (omega (arith, many o, small o)) in
-    (omega arith, taken-down (map (lockAt (o .args .t2)) (take (l .i) (o .args .t1 .kept))) _ (o .args .t2) (l .locks) blankActive (l .i) _ (l .inv .1) (sym e) (ahead-of (o .args .t1 .kept) (o .args .t1 .left) (l .i) (o .pre .rises) (c .before .before .loop2-test .taken) (omega (arith, many o, small o))) (omega (arith, long o, small o)) (map-next (lockAt (o .args .t2)) (o .args .t1 .kept) (l .i) 0 (omega (arith, many o, small o))))
+    (omega arith, taken-down (map (lockAt (o .args .t2)) (take (l .i) (o .args .t1 .kept))) _ (o .args .t2) (l .locks) blankActive (l .i) _ (l .inv .1) (sym e) (ahead-of (o .args .t1 .kept) (o .args .t1 .left) (l .i) (o .pre .rises) (c .before .before .loop2-test .taken) (omega (arith, many o, small o))) (omega (arith, long o, small o)) (ap (map (lockAt (o .args .t2))) (more (o .args .t1 .kept) (l .i) 0 (omega (arith, many o, small o))) ∙ map-more (lockAt (o .args .t2)) (take (l .i) (o .args .t1 .kept)) (getD (o .args .t1 .kept) (l .i) 0)))
 
 loop3-holds : At tie.Need-loop3-holds
 loop3-holds c = (omega (arith, count c), omega (arith, count c, small (start c)), blanking-start _ _ _ _ (count c) (omega (arith, whole c, small (start c))))
