@@ -7,16 +7,16 @@ use mathlib.Core.Path.{_≡_, refl, sym, ap, subst, _∙_}
 use Prim.Native.Nat.{ℕ, zero, suc, _+_, _-_, _≤_, _<_}
 use native.Mathlib.Numerals.{add-one}
 use native.Mathlib.Omega.{arith}
-use borrow.Author.Tests.{leb-true, le-leb}
+use borrow.Author.Tests.{le-leb}
 use lib.Dec.{leb}
 use lib.ListN.{length, getD, set, take, replicate, length-append, length-replicate, length-take, length-map}
 use lib.Seq.{take-suc, getD-take}
 use Rattle.lists.specs.Tests.{_or_, non, Yes}
 use Rattle.lists.specs.Lists.{any, filter, Mem, from, ascending}
 use Rattle.lists.specs.Places.{inPlaces, Holds}
-use Rattle.lists.proofs.Tests.{non-t, non-f, and-l, and-i}
-use Rattle.lists.proofs.Lists.{filter→, from-filter, rest}
-use Rattle.lists.proofs.Places.{mem-at}
+use Rattle.lists.proofs.Tests.{non-t, non-f, and-i}
+use Rattle.lists.proofs.Lists.{filter→, from→, from-filter, rest}
+use Rattle.lists.proofs.Places.{mem-at, ascending-at}
 use Rattle.lists.proofs.Loops.{push, keep-yes, keep-no, filter-split, map-more}
 use Rattle.state.specs.declared.ActiveLock.{ActiveLock}
 use Rattle.state.specs.Locks.{hasId, blankActive}
@@ -154,14 +154,11 @@ up-below : (n j : ℕ) → Mem j (upTo n) → j < n
 up-below zero j m = absurd (List·Memᴰ·not-nil m)
 up-below (suc n) j m = elim (List·Memᴰ·append-cases (upTo n) m) as (λ w. j < suc n) [ inl u ↦ omega (arith, up-below n j u) | inr u ↦ omega (arith, List·Memᴰ·eq-of-singleton u) ]
 
-first-over : (b k : ℕ) (ks : List ℕ) → Yes (from (λ j. j) b (k ∷ ks)) → b ≤ k
-first-over b k ks t = leb-true b k (and-l (leb b k) (from (λ j. j) (suc k) ks) t)
-
 -- a number over all before it at the end of what rises
 rises-more : (b x : ℕ) (ks : List ℕ) → Yes (from (λ j. j) b ks) → b ≤ x → ((j : ℕ) → Mem j ks → j < x) → Yes (from (λ j. j) b (ks ++ (x ∷ [])))
 rises-more b x [] t h g = and-i (leb b x) true (le-leb b x h) refl
 rises-more b x (k ∷ ks) t h g =
-    and-i (leb b k) (from (λ j. j) (suc k) (ks ++ (x ∷ []))) (le-leb b k (first-over b k ks t))
+    and-i (leb b k) (from (λ j. j) (suc k) (ks ++ (x ∷ []))) (le-leb b k (from→ (λ j. j) b {l = k ∷ ks} {a = k} t (List·Memᴰ·head refl)))
     (rises-more (suc k) x ks (rest (λ j. j) b k ks t) (g k (List·Memᴰ·head refl)) (λ j m. g j (List·Memᴰ·tail m)))
 
 up-rises : (n : ℕ) → Yes (ascending (λ j. j) (upTo n))
@@ -169,13 +166,12 @@ up-rises zero = refl
 up-rises (suc n) = rises-more 0 n (upTo n) (up-rises n) (omega arith) (up-below n)
 
 -- what rises has at each place no less than the place
-rises-ahead : (b : ℕ) (ks : List ℕ) → Yes (from (λ j. j) b ks) → (i : ℕ) → i < length ks → b + i ≤ getD ks i 0
-rises-ahead b [] t i h = omega arith
-rises-ahead b (k ∷ ks) t zero h = omega (arith, first-over b k ks t)
-rises-ahead b (k ∷ ks) t (suc i) h = omega (arith, first-over b k ks t, rises-ahead (suc k) ks (rest (λ j. j) b k ks t) i (omega arith))
+rises-ahead : (ks : List ℕ) → Yes (ascending (λ j. j) ks) → (i : ℕ) → i < length ks → i ≤ getD ks i 0
+rises-ahead ks t zero h = omega arith
+rises-ahead ks t (suc i) h = omega (arith, rises-ahead ks t i (omega arith), ascending-at (λ j. j) 0 ks 0 t i (suc i) (omega arith) h)
 
 pub ahead-of : (ks : List ℕ) (n i : ℕ) → Yes (ascending (λ j. j) (take n ks)) → i < n → n ≤ length ks → i ≤ getD ks i 0
-ahead-of ks n i t h w = subst (λ (j : ℕ). i ≤ j) (getD-take n ks i 0 h) (omega (arith, rises-ahead 0 (take n ks) t i (omega (arith, length-take n ks))))
+ahead-of ks n i t h w = subst (λ (j : ℕ). i ≤ j) (getD-take n ks i 0 h) (rises-ahead (take n ks) t i (omega (arith, length-take n ks)))
 
 pub up-more : (i : ℕ) → upTo (i + 1) ≡ upTo i ++ (i ∷ [])
 up-more i = ap upTo (add-one i)
