@@ -1,18 +1,18 @@
--- Rule 9: the walk through the defunct entries ends. As a statement (Ends), as the rule's test that meets no id twice
--- (meetsNone), and as a test that counts entries alone (leaves); the three agree, since a walk that ends meets no more ids
--- than the table has. Assumes nothing.
+-- Rule 9: the walk through the defunct entries ends. As a statement (Ends), and as the rule's test that meets no id twice
+-- (meetsNone); the two agree, since a walk that ends meets no more ids than the table has. A test that counts entries alone
+-- (leaves) passes too. Assumes nothing.
 use mathlib.Core.Path.{_≡_, refl, sym, ap, _∙_, subst}
-use mathlib.Core.Bool.{Bool, true, false, cond, true≢false, false≢true}
-use mathlib.Core.List.{List, [], _∷_, _++_, map, List·Memᴰ, List·Memᴰ·head, List·Memᴰ·tail, List·Memᴰ·not-nil, Memᴰ·cast, Memᴰ·map}
+use mathlib.Core.Bool.{Bool, true}
+use mathlib.Core.List.{List, [], _∷_, map, List·Memᴰ·head, List·Memᴰ·tail, List·Memᴰ·not-nil, Memᴰ·cast, Memᴰ·map}
 use mathlib.Core.Option.{Option, none, some, Option·none-ne-some, Option·some-injective}
-use mathlib.Core.Logic.{_⊎_, inl, inr}
-use Prim.Native.Nat.{ℕ, zero, suc, _+_, _≤_, _<_}
+use mathlib.Core.Logic.{inl, inr}
+use Prim.Native.Nat.{ℕ, zero, suc, _≤_, _<_}
 use native.Mathlib.Omega.{arith}
 use lib.ListN.{length, length-map}
 use lib.Dec.{eqb}
 use borrow.Author.Tests.{eqb-true}
 use Rattle.lists.specs.Tests.{_and_, non, Yes, No}
-use Rattle.lists.proofs.Tests.{against, →no, non-yes, yes-non, and-i, and-r, same-test}
+use Rattle.lists.proofs.Tests.{against, →no, non-yes, yes-non, and-i, and-r}
 use Rattle.lists.specs.Lists.{all, any, find, Mem, Fresh}
 use Rattle.lists.proofs.Lists.{all→, →all, any→, →any, find→, find-none→, find-cases, find-miss, pigeon}
 use Rattle.state.specs.Model.{Model}
@@ -30,18 +30,9 @@ unfoldable pub leaves : ℕ → List DefunctLock → ℕ → Bool
 leaves zero t k = non (hasD t k)
 leaves (suc n) t k = elim (findD t k) [ none ↦ true | some d ↦ leaves n t (key (d .target)) ]
 
--- ---- the tests imply it
+-- ---- the test implies it
 hasD-none : (t : List DefunctLock) (k : ℕ) → No ((hasD t k)) → findD t k ≡ none
 hasD-none t k h = find-miss (λ d. eqb (dkey d) k) t (λ d m e. against h (→any (λ d. eqb (dkey d) k) m e))
-
-pub leaves→ends : (n : ℕ) (t : List DefunctLock) (k : ℕ) → Yes (leaves n t k) → Ends t k
-unfolding leaves
-leaves→ends zero t k h = done (hasD-none t k (non-yes _ h))
-leaves→ends (suc n) t k h = go (findD t k) refl h (λ j u. leaves→ends n t j u)
-  where
-    go : (o : Option DefunctLock) → findD t k ≡ o → Yes (elim o [ none ↦ true | some d ↦ leaves n t (key (d .target)) ]) → ((j : ℕ) → Yes (leaves n t j) → Ends t j) → Ends t k
-    go none e u r = done e
-    go (some d) e u r = step e (r (key (d .target)) u)
 
 pub meets→ends : (n : ℕ) (t : List DefunctLock) (seen : List ℕ) (k : ℕ) → Yes (meetsNone n t seen k) → Ends t k
 unfolding meetsNone
@@ -52,12 +43,12 @@ meets→ends (suc n) t seen k h = go (findD t k) refl h (λ j u. meets→ends n 
     go none e u r = done e
     go (some d) e u r = step e (r (key (d .target)) (and-r (non (any (eqb k) seen)) (meetsNone n t (k ∷ seen) (key (d .target))) u))
 
--- ---- and back to the tests: the entries met are no more than the table has
+-- ---- and back to the test: the entries met are no more than the table has
 unfoldable pub chain : {t : List DefunctLock} {k : ℕ} → Ends t k → List ℕ
 chain (done e) = []
 chain (step {k = k} e r) = k ∷ chain r
 
-count : {t : List DefunctLock} {k : ℕ} → Ends t k → ℕ
+unfoldable pub count : {t : List DefunctLock} {k : ℕ} → Ends t k → ℕ
 count r = length (chain r)
 
 same-count : {t : List DefunctLock} {j k : ℕ} (r : Ends t j) (s : Ends t k) → j ≡ k → count r ≡ count s
@@ -66,6 +57,19 @@ same-count (done e) (done f) q = refl
 same-count {t} (done e) (step {d = d} f s) q = absurd (Option·none-ne-some d (sym e ∙ ap (findD t) q ∙ f))
 same-count {t} (step {d = d} e r) (done f) q = absurd (Option·none-ne-some d (sym f ∙ ap (findD t) (sym q) ∙ e))
 same-count {t} (step {d = d} e r) (step {d = d'} f s) q = ap suc (same-count r s (ap (λ (x : DefunctLock). key (x .target)) (Option·some-injective d d' (sym e ∙ ap (findD t) q ∙ f))))
+
+-- a step leaves one entry less
+pub shorter : {t : List DefunctLock} {k : ℕ} {d : DefunctLock} (j : ℕ) → findD t k ≡ some d → key (d .target) ≡ j → (r : Ends t k) → (s : Ends t j) × (count s < count r)
+unfolding count chain
+shorter {d = d} j e q (done f) = absurd (Option·none-ne-some d (sym f ∙ e))
+shorter {t} {d = d} j e q (step {d = c} f r) =
+    let p : key (c .target) ≡ j = ap (λ (x : DefunctLock). key (x .target)) (Option·some-injective c d (sym f ∙ e)) ∙ q in
+    let s = subst (Ends t) p r in
+    (s, omega (arith, same-count s r (sym p)))
+
+-- so no walk that ends comes back
+pub no-return : {t : List DefunctLock} {k : ℕ} (r s : Ends t k) → count s < count r → ⊥
+no-return r s h = omega (arith, same-count r s refl)
 
 -- from each id met the walk goes on, no longer than from the first
 met : {t : List DefunctLock} {k : ℕ} (r : Ends t k) {j : ℕ} → Mem j (chain r) → (s : Ends t j) × (count s ≤ count r) × Mem j (map dkey t)
@@ -112,10 +116,6 @@ bound t r = rw (← (length-map t dkey)) (pigeon (chain r) (map dkey t) (chain-f
 pub leaves-all : (t : List DefunctLock) {k : ℕ} → Ends t k → Yes (leaves (length t) t k)
 leaves-all t {k} r = ends→leaves (length t) r (bound t r)
 
--- any fuel from the table's length on says the same
-pub leaves-far : (t : List DefunctLock) (m : ℕ) {k : ℕ} → length t ≤ m → Ends t k → Yes (leaves m t k)
-leaves-far t m {k} h r = ends→leaves m r (omega (arith, bound t r))
-
 pub meets-all : (t : List DefunctLock) {k : ℕ} → Ends t k → Yes (meetsNone (length t) t [] k)
 meets-all t {k} r = ends→meets (length t) [] r (bound t r) (λ j m i. List·Memᴰ·not-nil i)
 
@@ -137,8 +137,3 @@ ends-anywhere m u k = elim (find-cases (λ d. eqb (dkey d) k) (m .defunct)) [
 pub rule9-of-ends : (m : Model) → ((d : DefunctLock) → Mem d (m .defunct) → Ends (m .defunct) (dkey d)) → rule9 m ≡ true
 unfolding rule9
 rule9-of-ends m f = →all (λ d. meetsNone (length (m .defunct)) (m .defunct) [] (dkey d)) (m .defunct) (λ d i. meets-all (m .defunct) (f d i))
-
-pub rule9-leaves : (m : Model) → rule9 m ≡ all (λ d. leaves (length (m .defunct)) (m .defunct) (dkey d)) (m .defunct)
-rule9-leaves m = same-test (rule9 m) (all (λ d. leaves (length (m .defunct)) (m .defunct) (dkey d)) (m .defunct))
-    (λ u. →all (λ d. leaves (length (m .defunct)) (m .defunct) (dkey d)) (m .defunct) (λ d i. leaves-all (m .defunct) (ends-of-rule9 m u d i)))
-    (λ u. rule9-of-ends m (λ d i. leaves→ends (length (m .defunct)) (m .defunct) (dkey d) (all→ (λ d. leaves (length (m .defunct)) (m .defunct) (dkey d)) u i)))

@@ -1,35 +1,33 @@
 -- Rules 2 to 8 by the columns of the active locks, and which of them is the lowest broken. Assumes nothing.
-use mathlib.Core.Path.{_≡_, refl, sym, ap, _∙_, subst}
+use mathlib.Core.Path.{_≡_, refl, sym, ap, _∙_}
 use mathlib.Core.Bool.{Bool, true, false, cond, false≢true}
 use mathlib.Core.List.{List, [], _∷_}
 use mathlib.Core.Option.{Option, none, some}
-use mathlib.Core.Logic.{_⊎_, inl, inr}
-use Prim.Native.Nat.{ℕ, zero, suc, _+_, _≤_, _<_}
+use mathlib.Core.Logic.{inl, inr}
+use Prim.Native.Nat.{ℕ, suc, _<_}
 use native.Mathlib.Omega.{arith}
 use lib.Dec.{eqb, ltb}
 use lib.ListN.{length, getD}
 use borrow.Author.Tests.{eq-eqb, ne-eqb, eqb-true, lt-ltb, ltb-true}
-use Rattle.lists.specs.Tests.{_and_, _or_, _imp_, non, Yes}
+use Rattle.lists.specs.Tests.{_and_, _or_, _imp_, non}
 use Rattle.lists.specs.Lists.{all, any, find, Mem, ascending}
 use Rattle.lists.specs.Below.{allBelow, anyBelow}
-use Rattle.lists.proofs.Tests.{same-test, against, →no, and-l, and-r, and-i, imp-e, imp-i, or-t, or-f}
+use Rattle.lists.proofs.Tests.{same-test, against, →no, by, non-yes, yes-non, and-l, and-r, and-i, imp-e, imp-i, or-t, or-f}
 use Rattle.lists.proofs.Lists.{all→, any→, →any, find→, find-key}
 use Rattle.lists.proofs.Below.{all-of, all-at, all-same, any-of, any-at, any-same, triangle}
 use Rattle.lists.proofs.Places.{mem-at, at-mem, all-below, ascending-at}
-use Rattle.ids.specs.declared.LockId.{LockId}
 use Rattle.ids.specs.Order.{key, sameId}
-use Rattle.coverage.specs.declared.LockCoverage.{LockCoverage}
 use Rattle.coverage.specs.Coverage.{overlap, within}
 use Rattle.coverage.proofs.Laws.{overlap-sym}
-use Rattle.state.specs.declared.ScopeKey.{ScopeKey}
 use Rattle.state.specs.declared.Lock.{Lock}
 use Rattle.state.specs.declared.ActiveLock.{ActiveLock}
 use Rattle.state.specs.Locks.{akey, isVehicle, scopeCode, sameScope, blankActive}
 use Rattle.state.specs.Model.{Model}
 use Rattle.state.proofs.Laws.{vehicle-code}
-use Rattle.rules.specs.Rules.{findA, parentOf, ofParent, isSome, clash, rule2, rule3, rule4, rule5, rule6, rule7, rule8}
-use Rattle.rules.specs.Code.{idAt, keyAt, coverAt, Sought, has}
+use Rattle.rules.specs.Rules.{parentOf, ofParent, isSome, clash, rule2, rule3, rule4, rule5, rule6, rule7, rule8}
+use Rattle.rules.specs.Code.{idAt, keyAt, coverAt, Sought, has, fitAt, lowestParent}
 use Rattle.rules.specs.Code.{Columns, clashAt, lowestFrom, activeRules}
+use Rattle.rules.proofs.Lowest.{low-nobody}
 
 -- ---- tests
 imp-same : (c a b : Bool) → (c ≡ true → a ≡ b) → (c imp a) ≡ (c imp b)
@@ -46,6 +44,19 @@ imp-false : (a : Bool) → (a imp false) ≡ non a
 unfolding _imp_ non
 imp-false true = refl
 imp-false false = refl
+
+-- what is asked of a child, in its parts
+module _ (c a b o w k : Bool) where
+  child-parts : (c imp (a and b and o and w and non k)) ≡ true → ((c imp (a and b)) ≡ true) × ((c imp o) ≡ true) × ((c imp w) ≡ true) × ((k imp non c) ≡ true)
+  child-parts t = (
+    imp-i c (a and b) (λ y. and-l _ _ (and-l _ _ (and-l _ _ (imp-e c _ t y)))),
+    imp-i c o (λ y. and-r _ _ (and-l _ _ (and-l _ _ (imp-e c _ t y)))),
+    imp-i c w (λ y. and-r _ _ (and-l _ _ (imp-e c _ t y))),
+    imp-i k (non c) (λ x. yes-non c (→no c (λ y. against (non-yes k (and-r _ _ (imp-e c _ t y))) x))),
+  )
+
+  child-whole : (c imp (a and b)) ≡ true → (c imp o) ≡ true → (c imp w) ≡ true → (k imp non c) ≡ true → (c imp (a and b and o and w and non k)) ≡ true
+  child-whole u v x z = imp-i c _ (λ y. and-i _ _ (and-i _ _ (and-i _ _ (imp-e c _ u y) (imp-e c _ v y)) (imp-e c _ x y)) (yes-non k (→no k (λ q. against (non-yes c (imp-e k _ z q)) y))))
 
 eqb-sym : (n m : ℕ) → eqb n m ≡ eqb m n
 eqb-sym n m = same-test (eqb n m) (eqb m n) (λ t. eq-eqb m n (sym (eqb-true n m t))) (λ t. eq-eqb n m (sym (eqb-true m n t)))
@@ -268,53 +279,95 @@ module _ (m : Model) (n : ℕ) (ids parents words : List ℕ) (whole child : Lis
             and-i (ltb v n) (sameId (idAt parents j) (idAt ids p)) (lt-ltb v n (y .0))
             (eq-eqb (keyAt parents j) (keyAt ids p) (sym (parent-key j h) ∙ sym (eqb-true (akey q) (key (at j .parent)) (z .1)) ∙ y .1 ∙ lock-key v (y .0) ∙ ap (keyAt ids) (sym (e (y .0)))))
 
+    -- ---- the four tests of a child, and all of them at once
+    abbrev fives : Bool
+    fives = allBelow n (λ i. getD child i false imp eqb (getD subjects p 0) (getD subjects i 0))
+
+    abbrev sixes : Bool
+    sixes = allBelow n (λ i. getD child i false imp within (coverAt words whole i) (coverAt words whole p))
+
+    abbrev sevens : Bool
+    sevens = allBelow n (λ i. eqb (getD scopes i 0) 0 imp non (getD child i false))
+
+    abbrev eights : Bool
+    eights = allBelow n (λ i. allBelow i (λ j. non (clashAt words whole scopes subjects i j)))
+
+    abbrev threes : Bool
+    threes = allBelow n (λ i. getD child i false imp has (keyAt ids) n (keyAt parents i))
+
+    abbrev fits : ℕ → Bool
+    fits = fitAt n ids parents words whole child scopes subjects (ltb v n) p
+
+    fit-child : allBelow n fits ≡ true → (j : ℕ) → j < n → (below j ≡ true) × ((getD child j false imp eqb (getD subjects p 0) (getD subjects j 0)) ≡ true) × ((getD child j false imp within (coverAt words whole j) (coverAt words whole p)) ≡ true) × ((eqb (getD scopes j 0) 0 imp non (getD child j false)) ≡ true)
+    unfolding fitAt
+    fit-child t j h = child-parts (getD child j false) (ltb v n) (sameId (idAt parents j) (idAt ids p)) (eqb (getD subjects p 0) (getD subjects j 0)) (within (coverAt words whole j) (coverAt words whole p)) (eqb (getD scopes j 0) 0) (all-at n fits t j h)
+
+    fit-parts : allBelow n fits ≡ true → (allBelow n below ≡ true) × (fives ≡ true) × (sixes ≡ true) × (sevens ≡ true)
+    fit-parts t = (
+      all-of n below (λ j h. fit-child t j h .0),
+      all-of n (λ i. getD child i false imp eqb (getD subjects p 0) (getD subjects i 0)) (λ j h. fit-child t j h .1),
+      all-of n (λ i. getD child i false imp within (coverAt words whole i) (coverAt words whole p)) (λ j h. fit-child t j h .2),
+      all-of n (λ i. eqb (getD scopes i 0) 0 imp non (getD child i false)) (λ j h. fit-child t j h .3),
+    )
+
+    fit-whole : allBelow n below ≡ true → fives ≡ true → sixes ≡ true → sevens ≡ true → allBelow n fits ≡ true
+    unfolding fitAt
+    fit-whole u t5 t6 t7 = all-of n fits (λ j h.
+        child-whole (getD child j false) (ltb v n) (sameId (idAt parents j) (idAt ids p)) (eqb (getD subjects p 0) (getD subjects j 0)) (within (coverAt words whole j) (coverAt words whole p)) (eqb (getD scopes j 0) 0)
+        (all-at n below u j h) (all-at n (λ i. getD child i false imp eqb (getD subjects p 0) (getD subjects i 0)) t5 j h) (all-at n (λ i. getD child i false imp within (coverAt words whole i) (coverAt words whole p)) t6 j h)
+        (all-at n (λ i. eqb (getD scopes i 0) 0 imp non (getD child i false)) t7 j h))
+
     -- ---- the lowest that is broken
     module _ (t2 : twos ≡ true) where
       from-two : lowestFrom 2 (activeRules m) ≡ lowestFrom 3 (from3 m)
       from-two = next-low 2 (rule2 m) (from3 m) (two-law s ∙ t2)
 
-      pub low-three : allBelow n (λ i. getD child i false imp has (keyAt ids) n (keyAt parents i)) ≡ false → 3 ≡ lowestFrom 2 (activeRules m)
+      low-three : allBelow n (λ i. getD child i false imp has (keyAt ids) n (keyAt parents i)) ≡ false → 3 ≡ lowestFrom 2 (activeRules m)
       low-three t = sym (from-two ∙ stop-low 3 (rule3 m) (from4 m) (three-law ∙ t))
 
-      pub low-four : allBelow n below ≡ false → allBelow n (λ i. getD child i false imp has (keyAt ids) n (keyAt parents i)) ≡ true → 4 ≡ lowestFrom 2 (activeRules m)
+      low-four : allBelow n below ≡ false → allBelow n (λ i. getD child i false imp has (keyAt ids) n (keyAt parents i)) ≡ true → 4 ≡ lowestFrom 2 (activeRules m)
       low-four u t = sym (from-two ∙ next-low 3 (rule3 m) (from4 m) (three-law ∙ t) ∙ stop-low 4 (rule4 m) (from5 m) (→no (rule4 m) (λ r. against u (under-yes (two-law s ∙ t2) (three-law ∙ t) r))))
 
       module _ (u : allBelow n below ≡ true) where
         from-four : lowestFrom 2 (activeRules m) ≡ lowestFrom 5 (from5 m)
         from-four = from-two ∙ next-low 3 (rule3 m) (from4 m) (three-yes u) ∙ next-low 4 (rule4 m) (from5 m) (four-yes u)
 
-        abbrev fives : Bool
-        fives = allBelow n (λ i. getD child i false imp eqb (getD subjects p 0) (getD subjects i 0))
-
-        abbrev sixes : Bool
-        sixes = allBelow n (λ i. getD child i false imp within (coverAt words whole i) (coverAt words whole p))
-
-        abbrev sevens : Bool
-        sevens = allBelow n (λ i. eqb (getD scopes i 0) 0 imp non (getD child i false))
-
-        abbrev eights : Bool
-        eights = allBelow n (λ i. allBelow i (λ j. non (clashAt words whole scopes subjects i j)))
-
-        pub low-five : fives ≡ false → 5 ≡ lowestFrom 2 (activeRules m)
+        low-five : fives ≡ false → 5 ≡ lowestFrom 2 (activeRules m)
         low-five t = sym (from-four ∙ stop-low 5 (rule5 m) (from6 m) (five-law u ∙ t))
 
         module _ (t5 : fives ≡ true) where
-          pub low-six : sixes ≡ false → 6 ≡ lowestFrom 2 (activeRules m)
+          low-six : sixes ≡ false → 6 ≡ lowestFrom 2 (activeRules m)
           low-six t = sym (from-four ∙ next-low 5 (rule5 m) (from6 m) (five-law u ∙ t5) ∙ stop-low 6 (rule6 m) (from7 m) (six-law u ∙ t))
 
           module _ (t6 : sixes ≡ true) where
             from-six : lowestFrom 2 (activeRules m) ≡ lowestFrom 7 (from7 m)
             from-six = from-four ∙ next-low 5 (rule5 m) (from6 m) (five-law u ∙ t5) ∙ next-low 6 (rule6 m) (from7 m) (six-law u ∙ t6)
 
-            pub low-seven : sevens ≡ false → 7 ≡ lowestFrom 2 (activeRules m)
+            low-seven : sevens ≡ false → 7 ≡ lowestFrom 2 (activeRules m)
             low-seven t = sym (from-six ∙ stop-low 7 (rule7 m) (from8 m) (seven-law ∙ t))
 
-            module _ (t7 : sevens ≡ true) where
-              pub low-eight : eights ≡ false → 8 ≡ lowestFrom 2 (activeRules m)
-              low-eight t = sym (from-six ∙ next-low 7 (rule7 m) (from8 m) (seven-law ∙ t7) ∙ stop-low 8 (rule8 m) [] (eight-law ∙ t))
+            from-seven : sevens ≡ true → lowestFrom 2 (activeRules m) ≡ lowestFrom 8 (from8 m)
+            from-seven t = from-six ∙ next-low 7 (rule7 m) (from8 m) (seven-law ∙ t)
 
-              pub low-none : eights ≡ true → 0 ≡ lowestFrom 2 (activeRules m)
-              low-none t = sym (from-six ∙ next-low 7 (rule7 m) (from8 m) (seven-law ∙ t7) ∙ next-low 8 (rule8 m) [] (eight-law ∙ t))
+      pub low-unfit : allBelow n fits ≡ false → lowestParent n ids parents words whole child scopes subjects (ltb v n) p ≡ lowestFrom 2 (activeRules m)
+      unfolding lowestParent
+      low-unfit f = by (allBelow n below) (lowestParent n ids parents words whole child scopes subjects (ltb v n) p ≡ lowestFrom 2 (activeRules m))
+          (λ u. rw u (by fives (cond fives (cond sixes 7 6) 5 ≡ lowestFrom 2 (activeRules m))
+          (λ t5. rw t5 (by sixes (cond sixes 7 6 ≡ lowestFrom 2 (activeRules m))
+          (λ t6. rw t6 (low-seven u t5 t6 (→no sevens (λ t7. against f (fit-whole u t5 t6 t7)))))
+          (λ t6. rw t6 (low-six u t5 t6))))
+          (λ t5. rw t5 (low-five u t5))))
+          (λ u. rw u (by threes (cond threes 4 3 ≡ lowestFrom 2 (activeRules m)) (λ t. rw t (low-four u t)) (λ t. rw t (low-three t))))
+
+      module _ (f : allBelow n fits ≡ true) where
+        from-fit : lowestFrom 2 (activeRules m) ≡ lowestFrom 8 (from8 m)
+        from-fit = let w = fit-parts f in from-seven (w .0) (w .1) (w .2) (w .3)
+
+        pub low-eight : eights ≡ false → 8 ≡ lowestFrom 2 (activeRules m)
+        low-eight t = sym (from-fit ∙ stop-low 8 (rule8 m) [] (eight-law ∙ t))
+
+        pub low-none : eights ≡ true → 0 ≡ lowestFrom 2 (activeRules m)
+        low-none t = sym (from-fit ∙ next-low 8 (rule8 m) [] (eight-law ∙ t))
 
   -- where there is no lock, none of these rules is broken
   nobody : n ≡ 0 → m .active ≡ []
@@ -325,5 +378,4 @@ module _ (m : Model) (n : ℕ) (ids parents words : List ℕ) (whole child : Lis
       go (x ∷ xs) h = absurd (omega arith)
 
   pub low-empty : n ≡ 0 → 0 ≡ lowestFrom 2 (activeRules m)
-  unfolding rule2 rule3 rule4 rule5 rule6 rule7 rule8
-  low-empty e = rw (nobody e)
+  low-empty e = low-nobody m (nobody e)

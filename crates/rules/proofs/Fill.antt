@@ -2,7 +2,7 @@
 use mathlib.Core.Path.{_≡_, refl, sym, ap, _∙_, subst}
 use mathlib.Core.Bool.{Bool, true, false}
 use mathlib.Core.List.{List}
-use mathlib.Core.Logic.{_⊎_, inl, inr}
+use mathlib.Core.Logic.{inl, inr}
 use Prim.Native.Nat.{ℕ, _+_, _*_, _-_, _≤_, _<_}
 use native.Mathlib.Omega.{arith}
 use native.Mathlib.Decide.{ℕ-discrete}
@@ -204,6 +204,7 @@ module _ (a : List ActiveLock) (i : ℕ) (list parents words : List ℕ) (whole 
 
   pub room-of : (n : ℕ) → i ≡ n → n ≤ 64 → Room n list parents words whole child kinds subjects
   room-of n e h = record {
+    few = h;
     ids-fit = omega (arith, w .list-long);
     parents-fit = omega (arith, w .parents-long);
     words-fit = omega (arith, w .words-long);

@@ -1,4 +1,5 @@
 -- Laws of the rules that other crates cite (Ends, Meeting, Sound), and those that the code's proofs do.
+pub mod Blanks
 pub mod Search
 pub mod Steps
 pub mod Scans

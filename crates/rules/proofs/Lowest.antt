@@ -1,17 +1,21 @@
 -- The lowest broken rule, as the chain of tests answers it. Assumes nothing.
 use mathlib.Core.Path.{_≡_, refl, sym, ap, _∙_}
-use mathlib.Core.Bool.{Bool, true, false}
+use mathlib.Core.Bool.{Bool, true, false, _&&_}
 use mathlib.Core.List.{List, [], _∷_, _++_}
 use Prim.Native.Nat.{ℕ, suc, _≤_, _<_}
 use native.Mathlib.Omega.{arith}
-use borrow.Author.Tests.{le-leb, lt-leb}
-use lib.Dec.{leb}
-use Rattle.lists.specs.Tests.{_and_}
+use borrow.Author.Tests.{le-leb, lt-leb, eqb-true}
+use lib.Dec.{eqb, leb}
+use lib.ListN.{take}
+use Rattle.lists.specs.Tests.{_and_, non}
+use Rattle.lists.specs.Lists.{all, ascending}
+use Rattle.lists.proofs.Tests.{and-l, and-r, and-i, and-code}
+use Rattle.lists.proofs.Lists.{→all}
 use Rattle.state.specs.declared.LockState.{LockState}
-use Rattle.state.specs.Model.{modelOf}
-use Rattle.rules.specs.declared.Verdict.{Verdict}
+use Rattle.state.specs.Locks.{akey, dkey}
+use Rattle.state.specs.Model.{Model, modelOf}
 use Rattle.rules.specs.declared.Verdict.the-variants.{Sound, Broken}
-use Rattle.rules.specs.Rules.{blanks, inOrder, neat, rule0, rule1, rule9, verdict, brokenRule}
+use Rattle.rules.specs.Rules.{hasD, blanks, inOrder, neatA, neatD, neat, rule0, rule1, rule2, rule3, rule4, rule5, rule6, rule7, rule8, rule9, verdict, brokenRule}
 use Rattle.rules.specs.Code.{lowestFrom, activeRules}
 
 next-rule : (n : ℕ) (b : Bool) (bs : List Bool) → b ≡ true → verdict n (b ∷ bs) ≡ verdict (suc n) bs
@@ -129,3 +133,40 @@ module _ (s : LockState) where
         pub rule0-yes : inOrder (modelOf s) ≡ true → neat (modelOf s) ≡ true → rule0 s ≡ true
         unfolding rule0
         rule0-yes o n = five-yes counts-a counts-d (blanks s) (inOrder (modelOf s)) (neat (modelOf s)) (le-leb _ _ ha) (le-leb _ _ hd) b o n
+
+-- ---- without defunct locks, and without any
+pub both-zero : (a b : ℕ) → (eqb a 0 && eqb b 0) ≡ true → (a ≡ 0) × (b ≡ 0)
+both-zero a b t = let u = sym (and-code (eqb a 0) (eqb b 0)) ∙ t in (eqb-true a 0 (and-l _ _ u), eqb-true b 0 (and-r _ _ u))
+
+pub low-nobody : (m : Model) → m .active ≡ [] → 0 ≡ lowestFrom 2 (activeRules m)
+unfolding rule2 rule3 rule4 rule5 rule6 rule7 rule8
+low-nobody m e = rw e
+
+rule1-alone : (m : Model) → m .defunct ≡ [] → rule1 m ≡ true
+unfolding rule1 non
+rule1-alone m e = →all (λ a. non (hasD (m .defunct) (akey a))) (m .active) (λ a i. rw e)
+
+rule9-alone : (m : Model) → m .defunct ≡ [] → rule9 m ≡ true
+unfolding rule9
+rule9-alone m e = rw e
+
+module _ (s : LockState) (ha : s .actives ≤ 64) (hd : s .defuncts ≤ 128) (b : blanks s ≡ true) (z : s .defuncts ≡ 0) where
+  none-left : modelOf s .defunct ≡ []
+  none-left = ap (λ (n : ℕ). take n (s .defunct)) z
+
+  module _ (o : ascending akey (modelOf s .active) ≡ true) (t : all neatA (modelOf s .active) ≡ true) (k : ℕ) (e : k ≡ lowestFrom 2 (activeRules (modelOf s))) where
+    zero-alone : rule0 s ≡ true
+    unfolding inOrder neat
+    zero-alone = rule0-yes s ha hd b (and-i _ _ o (ap (ascending dkey) none-left)) (and-i _ _ t (ap (all neatD) none-left))
+
+    pub alone-broken : (k ≡ 0 → ⊥) → Broken k ≡ brokenRule s
+    alone-broken n = some-broken s zero-alone (rule1-alone (modelOf s) none-left) k e n
+
+    pub alone-sound : k ≡ 0 → Sound ≡ brokenRule s
+    alone-sound n = none-broken s zero-alone (rule1-alone (modelOf s) none-left) k e n (rule9-alone (modelOf s) none-left)
+
+  pub empty-sound : s .actives ≡ 0 → Sound ≡ brokenRule s
+  empty-sound y = alone-sound (ap (ascending akey) nobody) (ap (all neatA) nobody) 0 (low-nobody (modelOf s) nobody) refl
+    where
+      nobody : modelOf s .active ≡ []
+      nobody = ap (λ (n : ℕ). take n (s .active)) y

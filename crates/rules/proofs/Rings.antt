@@ -1,32 +1,31 @@
 -- Rules 1 and 9 by columns. Rule 9 by the places of the entries: the walk by ids is the walk from place to place.
 -- Assumes nothing.
 use mathlib.Core.Path.{_≡_, refl, sym, ap, _∙_, subst}
-use mathlib.Core.Bool.{Bool, true, false}
+use mathlib.Core.Bool.{Bool, true}
 use mathlib.Core.List.{List}
-use mathlib.Core.Option.{none}
-use mathlib.Core.Logic.{_⊎_, inl, inr}
-use Prim.Native.Nat.{ℕ, zero, suc, _≤_, _<_}
+use mathlib.Core.Option.{none, some}
+use mathlib.Core.Logic.{inl, inr}
+use Prim.Native.Nat.{ℕ, _<_}
 use native.Mathlib.Omega.{arith}
-use lib.ListN.{length, getD}
-use lib.Dec.{eqb, leb}
-use borrow.Author.Tests.{eq-eqb, eqb-true, lt-leb, le-leb}
-use Rattle.lists.specs.Tests.{non, Yes, No}
-use Rattle.lists.specs.Lists.{all, any, Mem, ascending}
+use lib.ListN.{getD}
+use lib.Dec.{eqb}
+use borrow.Author.Tests.{eqb-true}
+use Rattle.lists.specs.Tests.{non}
+use Rattle.lists.specs.Lists.{Mem, ascending}
 use Rattle.lists.specs.Below.{allBelow, anyBelow}
-use Rattle.lists.proofs.Tests.{→no, same-test}
-use Rattle.lists.proofs.Lists.{all→, →all, any→, →any, find-none→, find-miss, find-key}
-use Rattle.lists.proofs.Below.{all-of, all-at, all-same, any-same}
+use Rattle.lists.proofs.Tests.{→no}
+use Rattle.lists.proofs.Lists.{find-miss, find-key}
+use Rattle.lists.proofs.Below.{all-same, any-same}
 use Rattle.lists.proofs.Places.{mem-at, at-mem, all-below}
 use Rattle.ids.specs.Order.{key}
 use Rattle.state.specs.declared.DefunctLock.{DefunctLock}
 use Rattle.state.specs.Locks.{akey, dkey, blankActive, blankDefunct}
 use Rattle.state.specs.Model.{Model}
 use Rattle.rules.specs.Rules.{findD, hasD, rule1, rule9}
-use Rattle.rules.specs.Code.{keyAt, Sought, has, jump, times, allOut, LeadsOut}
+use Rattle.rules.specs.Code.{keyAt, Sought, has, Step, Out, past, via, Path, single, longer, LeadsOut}
 use Rattle.rules.specs.Code.{Columns, Entries}
-use Rattle.rules.proofs.Steps.{jump-in, jump-out, times-out}
 use Rattle.rules.proofs.Family.{any-below}
-use Rattle.rules.proofs.Ends.{leaves, leaves→ends, leaves-all, leaves-far, rule9-leaves}
+use Rattle.rules.proofs.Ends.{Ends, done, step, count, shorter, no-return, ends-of-rule9, rule9-of-ends}
 
 -- ---- rule 1
 pub one-law : (m : Model) (n k : ℕ) (ids parents words : List ℕ) (whole child : List Bool) (scopes subjects gone targets : List ℕ)
@@ -45,53 +44,57 @@ one-law m n k ids parents words whole child scopes subjects gone targets c e =
         ∙ any-same k (λ x. eqb (dkey (getD (m .defunct) x blankDefunct)) (akey (getD (m .active) i blankActive))) (λ x. eqb (keyAt gone x) (keyAt ids i)) (λ x g. rw (e .at-gone x g, c .at-id i h))
 
 -- ---- rule 9
-hasD-yes : (t : List DefunctLock) (k : ℕ) {d : DefunctLock} → Mem d t → dkey d ≡ k → Yes (hasD t k)
-hasD-yes t k {d} m e = →any (λ d. eqb (dkey d) k) m (eq-eqb (dkey d) k e)
+module _ (m : Model) (n : ℕ) (gone targets next : List ℕ) (c : Entries (m .defunct) n gone targets) (s : ascending dkey (m .defunct) ≡ true)
+    (g : (i : ℕ) → i < n → Sought (keyAt gone) n (keyAt targets i) (getD next i 0)) where
+  abbrev entry-at : ℕ → DefunctLock
+  entry-at p = getD (m .defunct) p blankDefunct
 
-module _ (t : List DefunctLock) (b : DefunctLock) (l : List ℕ) where
-  abbrev at : ℕ → ℕ
-  at j = dkey (getD t j b)
+  mine : (p : ℕ) → p < n → Mem (entry-at p) (m .defunct)
+  mine p h = mem-at (m .defunct) p blankDefunct (omega (arith, c .long))
 
-  not-found : (k : ℕ) → ((i : ℕ) → i < length t → at i ≡ k → ⊥) → findD t k ≡ none
-  not-found k f = find-miss (λ d. eqb (dkey d) k) t (λ d m e. let w = at-mem b m in f (w .0) (w .1) (ap dkey (w .2) ∙ eqb-true (dkey d) k e))
+  found : (p : ℕ) → p < n → findD (m .defunct) (dkey (entry-at p)) ≡ some (entry-at p)
+  found p h = find-key dkey (m .defunct) s (dkey (entry-at p)) (mine p h) refl
 
-  not-had : (k : ℕ) → ((i : ℕ) → i < length t → at i ≡ k → ⊥) → No (hasD t k)
-  not-had k f = →no (hasD t k) (λ u. let w = any→ (λ d. eqb (dkey d) k) t u in find-none→ (λ d. eqb (dkey d) k) t (not-found k f) (w .1) (w .2))
+  -- a step to a place of the table, and one out of it
+  to-place : {p q : ℕ} → p < n → q < n → keyAt gone q ≡ keyAt targets p → key (entry-at p .target) ≡ dkey (entry-at q)
+  to-place {p} {q} h g e = ap key (sym (c .at-target p h)) ∙ sym e ∙ ap key (c .at-gone q g)
 
-  module _ (s : Yes (ascending dkey t)) (g : (i : ℕ) → i < length t → Sought at (length t) (key (getD t i b .target)) (getD l i 0)) where
-    -- from a key and from its place, the walk is the same
-    pub by-places : (m k i : ℕ) → Sought at (length t) k i → leaves m t k ≡ leb (length t) (times m (jump l (length t)) i)
-    unfolding leaves times non
-    by-places zero k i (inl w) = rw (hasD-yes t k (mem-at t i b (w .0)) (w .1)) (sym (lt-leb (length t) i (w .0)))
-    by-places zero k i (inr w) = rw (not-had k (w .1), w .0) (sym (le-leb (length t) (length t) (omega arith)))
-    by-places (suc m) k i (inl w) =
-        rw (find-key dkey t s k (mem-at t i b (w .0)) (w .1), leaves, jump-in l (length t) i (w .0)) (by-places m (key (getD t i b .target)) (getD l i 0) (g i (w .0)))
-    by-places (suc m) k i (inr w) =
-        rw (not-found k (w .1), leaves, w .0, jump-out l (length t) (length t) (omega arith), times-out m l (length t) (length t) (omega arith)) (sym (le-leb (length t) (length t) (omega arith)))
+  to-none : {p : ℕ} → p < n → ((i : ℕ) → i < n → keyAt gone i ≡ keyAt targets p → ⊥) → findD (m .defunct) (key (entry-at p .target)) ≡ none
+  to-none {p} h f = find-miss (λ d. eqb (dkey d) (key (entry-at p .target))) (m .defunct) (λ d i e.
+      let w = at-mem blankDefunct i in
+      let l : w .0 < n = omega (arith, c .long, w .1) in
+      f (w .0) l (ap key (c .at-gone (w .0) l) ∙ ap dkey (w .2) ∙ eqb-true (dkey d) (key (entry-at p .target)) e ∙ ap key (sym (c .at-target p h))))
 
-    -- and so is the rule
-    pub rule9-places : (m : ℕ) → length t ≤ m → all (λ d. leaves (length t) t (dkey d)) t ≡ allOut m l (length t)
-    rule9-places m h = same-test (all (λ d. leaves (length t) t (dkey d)) t) (allOut m l (length t))
-        (λ u. all-of (length t) (λ i. leb (length t) (times m (jump l (length t)) i)) (λ i k.
-        sym (by-places m (at i) i (inl (k, refl))) ∙ leaves-far t m h (leaves→ends (length t) t (at i) (all→ (λ d. leaves (length t) t (dkey d)) u (mem-at t i b k)))))
-        (λ u. →all (λ d. leaves (length t) t (dkey d)) t (λ d v.
-        let w = at-mem b v in
-        subst (λ (x : DefunctLock). Yes (leaves (length t) t (dkey x))) (w .2)
-        (leaves-all t (leaves→ends m t (at (w .0)) (by-places m (at (w .0)) (w .0) (inl (w .1, refl)) ∙ all-at (length t) (λ i. leb (length t) (times m (jump l (length t)) i)) u (w .0) (w .1))))))
+  sought : {p q : ℕ} → Step next n p q → Sought (keyAt gone) n (keyAt targets p) q
+  sought {p} e = subst (λ (x : ℕ). Sought (keyAt gone) n (keyAt targets p) x) (e .1) (g p (e .0))
 
-sought-same : (f g : ℕ → ℕ) (n k r : ℕ) → ((i : ℕ) → i < n → f i ≡ g i) → Sought f n k r → Sought g n k r
-sought-same f g n k r e (inl w) = inl (w .0, sym (e r (w .0)) ∙ w .1)
-sought-same f g n k r e (inr w) = inr (w .0, λ i h q. w .1 i h (e i h ∙ q))
+  -- a walk that leads out of the places ends
+  via-ends : {p q : ℕ} → p < n → Sought (keyAt gone) n (keyAt targets p) q → (q < n → Ends (m .defunct) (dkey (entry-at q))) → Ends (m .defunct) (dkey (entry-at p))
+  via-ends {p} h (inl w) r = step (found p h) (subst (Ends (m .defunct)) (sym (to-place h (w .0) (w .1))) (r (w .0)))
+  via-ends {p} h (inr w) r = step (found p h) (done (to-none h (w .1)))
 
--- where the table of steps says of each entry the place that its target has
-pub ring-law : (m : Model) (n : ℕ) (gone targets next : List ℕ) → Entries (m .defunct) n gone targets → ascending dkey (m .defunct) ≡ true
-    → ((i : ℕ) → i < n → Sought (keyAt gone) n (keyAt targets i) (getD next i 0)) → (r : Bool) → LeadsOut next n r → r ≡ rule9 m
-ring-law m n gone targets next c s g r w =
-    w .says ∙ ap (allOut (w .reach) next) (sym (c .long))
-    ∙ sym (rule9-places (m .defunct) blankDefunct next s go (w .reach) (omega (arith, c .long, w .far)))
-    ∙ sym (rule9-leaves m)
-  where
-    go : (i : ℕ) → i < length (m .defunct) → Sought (λ j. dkey (getD (m .defunct) j blankDefunct)) (length (m .defunct)) (key (getD (m .defunct) i blankDefunct .target)) (getD next i 0)
-    go i k =
-        let l : i < n = omega (arith, c .long) in
-        rw (c .long, ← (c .at-target i l)) (sought-same (keyAt gone) (λ j. dkey (getD (m .defunct) j blankDefunct)) n (keyAt targets i) (getD next i 0) (λ j h. ap key (c .at-gone j h)) (g i l))
+  out-ends : {p : ℕ} → Out next n p → p < n → Ends (m .defunct) (dkey (entry-at p))
+  out-ends (past h) l = absurd (omega arith)
+  out-ends (via e o) l = via-ends l (sought e) (λ k. out-ends o k)
+
+  -- and one that ends has less to go at each place that it comes to
+  next-ends : {p q : ℕ} → p < n → Sought (keyAt gone) n (keyAt targets p) q → q < n → (r : Ends (m .defunct) (dkey (entry-at p))) → (t : Ends (m .defunct) (dkey (entry-at q))) × (count t < count r)
+  next-ends {p} {q} h (inl w) l r = shorter (dkey (entry-at q)) (found p h) (to-place h (w .0) (w .1)) r
+  next-ends h (inr w) l r = absurd (omega (arith, w .0))
+
+  path-ends : {p q : ℕ} → Path next n p q → q < n → (r : Ends (m .defunct) (dkey (entry-at p))) → (t : Ends (m .defunct) (dkey (entry-at q))) × (count t < count r)
+  path-ends (single e) l r = next-ends (e .0) (sought e) l r
+  path-ends (longer w e) l r =
+      let a = path-ends w (e .0) r in
+      let b = next-ends (e .0) (sought e) l (a .0) in
+      (b .0, omega (arith, a .1, b .1))
+
+  pub ring-law : (r : Bool) → LeadsOut next n r → r ≡ rule9 m
+  ring-law r (inl w) = w .0 ∙ sym (rule9-of-ends m (λ d i.
+      let u = at-mem blankDefunct i in
+      let l : u .0 < n = omega (arith, c .long, u .1) in
+      subst (λ (x : DefunctLock). Ends (m .defunct) (dkey x)) (u .2) (out-ends (w .1 (u .0) l) l)))
+  ring-law r (inr w) = w .0 ∙ sym (→no (rule9 m) (λ u.
+      let e = ends-of-rule9 m u (entry-at (w .1 .0)) (mine (w .1 .0) (w .1 .1)) in
+      let f = path-ends (w .1 .2) (w .1 .1) e in
+      no-return e (f .0) (f .1)))

@@ -1,24 +1,27 @@
 -- What the scans of the columns test at one place, as the definitions have it; and the table of scopes seen.
 -- Assumes nothing.
-use mathlib.Core.Path.{_≡_, refl, sym, ap, _∙_, subst}
+use mathlib.Core.Path.{_≡_, refl, sym, ap, _∙_}
 use mathlib.Core.Bool.{Bool, true, false, not, _&&_, true≢false, false≢true}
 use mathlib.Core.List.{List}
-use Prim.Native.Nat.{ℕ, zero, suc, _+_, _*_, _≤_, _<_}
+use Prim.Native.Nat.{ℕ, zero, suc, _+_, _*_, _<_}
 use native.Mathlib.Omega.{arith}
 use native.Mathlib.Decide.{ℕ-discrete}
-use borrow.Author.Tests.{eq-eqb, ne-eqb, eqb-true}
+use borrow.Author.Tests.{eq-eqb, ne-eqb, not-true, not-false}
 use lib.Dec.{eqb}
 use lib.ListN.{length, getD, set, length-set, replicate, length-replicate}
 use lib.Seq.{getD-set-same, getD-set-other}
 use Rattle.lists.specs.Tests.{_and_, _imp_, non}
 use Rattle.lists.specs.Below.{allBelow}
-use Rattle.lists.proofs.Tests.{and-code, non-t, non-f}
+use Rattle.lists.proofs.Tests.{and-code, non-t, non-f, codes}
 use Rattle.lists.proofs.Below.{all-of, all-no}
 use Rattle.ids.specs.declared.LockId.{LockId}
 use Rattle.ids.specs.Order.{sameId}
+use Rattle.coverage.specs.declared.LockCoverage.{LockCoverage}
+use Rattle.coverage.specs.Coverage.{within}
 use Rattle.state.specs.declared.ScopeKey.{ScopeKey}
 use Rattle.state.specs.declared.ScopeKey.the-variants.{Vehicle, Ecu, FunctionalGroup}
 use Rattle.state.specs.Locks.{scopeCode}
+use Rattle.rules.specs.Code.{idAt, coverAt, fitAt}
 
 -- ---- a place that a rule speaks of, and that fails or holds
 module _ (c t u : Bool) (e : t ≡ u) where
@@ -40,27 +43,29 @@ module _ (c t u : Bool) (e : t ≡ u) where
       go true false k = absurd (true≢false k)
       go false t k = refl
 
-module _ (c t : Bool) where
-  pub both : (c && t) ≡ true → (c imp non t) ≡ false
-  unfolding _imp_ non
-  both h = go c t h
-    where
-      go : (c t : Bool) → (c && t) ≡ true → (c imp non t) ≡ false
-      go true true k = refl
-      go true false k = absurd (false≢true k)
-      go false t k = absurd (false≢true k)
-
-  pub not-both : (c && t) ≡ false → (c imp non t) ≡ true
-  unfolding _imp_ non
-  not-both h = go c t h
-    where
-      go : (c t : Bool) → (c && t) ≡ false → (c imp non t) ≡ true
-      go true true k = absurd (true≢false k)
-      go true false k = refl
-      go false t k = refl
-
 pub some-same : (s t : Bool) (a x y : LockId) → t ≡ sameId a y → a ≡ x → (s && t) ≡ (s and sameId x y)
 some-same s t a x y e f = and-code s t ∙ ap (λ (b : Bool). s and b) (e ∙ ap (λ (i : LockId). sameId i y) f)
+
+-- ---- rules 3 to 7 at one place
+module _ (n : ℕ) (ids parents words : List ℕ) (whole child : List Bool) (scopes subjects : List ℕ) (some : Bool) (p i : ℕ) where
+  pub fit-childless : not (getD child i false) ≡ true → fitAt n ids parents words whole child scopes subjects some p i ≡ true
+  unfolding fitAt _imp_
+  fit-childless t = let e : getD child i false ≡ false = not-true _ t in rw e
+
+  module _ (s w : Bool) (id q : LockId) (cover x : LockCoverage) (es : s ≡ sameId q id) (ew : w ≡ within x cover) (ei : id ≡ idAt ids p) (eq : q ≡ idAt parents i)
+      (ec : cover ≡ coverAt words whole p) (ex : x ≡ coverAt words whole i) (t : not (getD child i false) ≡ false) where
+    abbrev fit-code : Bool
+    fit-code = (((some && s) && eqb (getD subjects p 0) (getD subjects i 0)) && w) && not (eqb (getD scopes i 0) 0)
+
+    fit-told : fit-code ≡ fitAt n ids parents words whole child scopes subjects some p i
+    unfolding fitAt _imp_
+    fit-told = let e : getD child i false ≡ true = not-false _ t in rw e (simp codes (λ z. some and (es ∙ (λ y. sameId (eq y) (ei y))) z and eqb (getD subjects p 0) (getD subjects i 0) and (ew ∙ (λ y. within (ex y) (ec y))) z and non (eqb (getD scopes i 0) 0)))
+
+    pub fit-no : not fit-code ≡ true → fitAt n ids parents words whole child scopes subjects some p i ≡ false
+    fit-no h = sym fit-told ∙ not-true _ h
+
+    pub fit-yes : not fit-code ≡ false → fitAt n ids parents words whole child scopes subjects some p i ≡ true
+    fit-yes h = sym fit-told ∙ not-false _ h
 
 -- ---- a table of which numbers below 513 were seen at the places below i
 pub record Marked (f : ℕ → ℕ) (i : ℕ) (seen : List Bool) : Type 0 where

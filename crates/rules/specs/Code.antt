@@ -7,13 +7,13 @@ use mathlib.Core.Path.{_≡_}
 use mathlib.Core.Bool.{Bool, true, false, cond}
 use mathlib.Core.List.{List, [], _∷_}
 use mathlib.Core.Logic.{_⊎_}
-use Prim.Native.Nat.{ℕ, zero, suc, _+_, _-_, _*_, _/_, _%_, _≤_, _<_}
-use lib.Dec.{eqb, ltb, leb}
+use Prim.Native.Nat.{ℕ, suc, _+_, _-_, _*_, _/_, _%_, _≤_, _<_}
+use lib.Dec.{eqb}
 use lib.ListN.{length, getD}
-use Rattle.lists.specs.Tests.{non, _and_, _or_}
+use Rattle.lists.specs.Tests.{non, _and_, _or_, _imp_}
 use Rattle.lists.specs.Below.{allBelow, anyBelow}
 use Rattle.ids.specs.declared.LockId.{LockId}
-use Rattle.ids.specs.Order.{key}
+use Rattle.ids.specs.Order.{key, sameId}
 use Rattle.coverage.specs.declared.LockCoverage.{LockCoverage}
 use lib.Bits.{bitOr}
 use Rattle.coverage.specs.Coverage.{overlap, within}
@@ -21,7 +21,16 @@ use Rattle.state.specs.declared.ActiveLock.{ActiveLock}
 use Rattle.state.specs.declared.DefunctLock.{DefunctLock}
 use Rattle.state.specs.Locks.{scopeCode, blankActive, blankDefunct}
 use Rattle.state.specs.Model.{Model}
+use Rattle.rules.specs.declared.shapes.Dirt.{Dirt}
 use Rattle.rules.specs.Rules.{rule2, rule3, rule4, rule5, rule6, rule7, rule8}
+
+-- ---- unused places
+-- nothing was found in them
+unfoldable pub clean : Dirt → Bool
+clean d = eqb (d .even) 0 and eqb (d .odd) 0 and eqb (d .rest) 0 and non (d .flag)
+
+abbrev pub spotless : Dirt
+spotless = record { even = 0; odd = 0; rest = 0; flag = false }
 
 -- ---- columns
 abbrev pub idAt : List ℕ → ℕ → LockId
@@ -59,24 +68,24 @@ pub record Slotted (l : List ℕ) (n : ℕ) (t : List ℕ) : Type 0 where
   pub used : (i : ℕ) → i < n → 0 < getD t (slotOf (idAt l i)) 0
   pub small : (k : ℕ) → getD t k 0 ≤ n
 
--- ---- steps
--- from place i to the place that l names there; a place that is not below n is out, and stays
-unfoldable pub jump : List ℕ → ℕ → ℕ → ℕ
-jump l n i = cond (ltb i n) (getD l i 0) i
+-- ---- steps along a table that names for each of n places the next; a place that is not below n is out
+module _ (next : List ℕ) (n : ℕ) where
+  abbrev pub Step : ℕ → ℕ → Type 0
+  Step p q = (p < n) × (getD next p 0 ≡ q)
 
-unfoldable pub times : ℕ → (ℕ → ℕ) → ℕ → ℕ
-times zero f i = i
-times (suc m) f i = times m f (f i)
+  -- the walk from place p leads out of the n places
+  pub data Out : ℕ → Type 0 where
+    past : {p : ℕ} → n ≤ p → Out p
+    via : {p q : ℕ} → Step p q → Out q → Out p
 
--- from each place below n, so many steps along l lead out
-abbrev pub allOut : ℕ → List ℕ → ℕ → Bool
-allOut m l n = allBelow n (λ i. leb n (times m (jump l n) i))
+  -- one step or more lead from place p to place q
+  pub data Path : ℕ → ℕ → Type 0 where
+    single : {p q : ℕ} → Step p q → Path p q
+    longer : {p j q : ℕ} → Path p j → Step j q → Path p q
 
--- what is said of a table of steps: n steps or more lead out of it, from every place
-pub record LeadsOut (l : List ℕ) (n : ℕ) (r : Bool) : Type 0 where
-  pub reach : ℕ
-  pub far : n ≤ reach
-  pub says : r ≡ allOut reach l n
+  -- r says whether every walk leads out; where not, there is a ring
+  abbrev pub LeadsOut : Bool → Type 0
+  LeadsOut r = ((r ≡ true) × ((p : ℕ) → p < n → Out p)) ⊎ ((r ≡ false) × ((p : ℕ) × (p < n) × Path p p))
 
 -- ---- what the columns say of the lists
 -- the columns say of each place what the list l has there
@@ -94,8 +103,9 @@ pub record Entries (t : List DefunctLock) (n : ℕ) (gone targets : List ℕ) : 
   pub at-gone : (i : ℕ) → i < n → idAt gone i ≡ getD t i blankDefunct .lock .id
   pub at-target : (i : ℕ) → i < n → idAt targets i ≡ getD t i blankDefunct .target
 
--- each column has n places, and a scope's number is below 513
+-- there are at most 64 locks, each column has n places, and a scope's number is below 513
 pub record Room (n : ℕ) (ids parents words : List ℕ) (whole child : List Bool) (scopes subjects : List ℕ) : Type 0 where
+  pub few : n ≤ 64
   pub ids-fit : 2 * n ≤ length ids
   pub parents-fit : 2 * n ≤ length parents
   pub words-fit : 4 * n ≤ length words
@@ -104,6 +114,29 @@ pub record Room (n : ℕ) (ids parents words : List ℕ) (whole child : List Boo
   pub scopes-fit : n ≤ length scopes
   pub subjects-fit : n ≤ length subjects
   pub codes : (i : ℕ) → i < n → getD scopes i 0 < 513
+
+-- ---- rules 3 to 7 by place: `some` says whether there is a vehicle lock, which is then at place p
+module _ (n : ℕ) (ids parents words : List ℕ) (whole child : List Bool) (scopes subjects : List ℕ) (some : Bool) (p : ℕ) where
+  -- what they ask of the lock at place i, all at once
+  unfoldable pub fitAt : ℕ → Bool
+  fitAt i = getD child i false imp (some and sameId (idAt parents i) (idAt ids p) and eqb (getD subjects p 0) (getD subjects i 0) and within (coverAt words whole i) (coverAt words whole p) and non (eqb (getD scopes i 0) 0))
+
+  -- rules 3 and 4, rule 3 alone, rule 5, rule 6
+  abbrev pub underAll : Bool
+  underAll = allBelow n (λ i. getD child i false imp (some and sameId (idAt parents i) (idAt ids p)))
+
+  abbrev pub activeAll : Bool
+  activeAll = allBelow n (λ i. getD child i false imp has (keyAt ids) n (keyAt parents i))
+
+  abbrev pub ownedAll : Bool
+  ownedAll = allBelow n (λ i. getD child i false imp eqb (getD subjects p 0) (getD subjects i 0))
+
+  abbrev pub insideAll : Bool
+  insideAll = allBelow n (λ i. getD child i false imp within (coverAt words whole i) (coverAt words whole p))
+
+  -- the lowest that is broken, where one is
+  unfoldable pub lowestParent : ℕ
+  lowestParent = cond underAll (cond ownedAll (cond insideAll 7 6) 5) (cond activeAll 4 3)
 
 -- ---- rule 8 by place
 abbrev pub union : LockCoverage → LockCoverage → LockCoverage

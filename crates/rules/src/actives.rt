@@ -2,7 +2,6 @@
 // SPDX-License-Identifier: Apache-2.0
 use crate::covers;
 use crate::parents;
-use crate::places;
 use crate::scopes;
 ghost use mathlib.Core.Path.{_≡_};
 ghost use mathlib.Core.Bool.{true};
@@ -35,20 +34,30 @@ pub(crate) fn lowest(
     }
     let v = scopes::vehicle(kinds, n);
     let p = if v < n { v } else { 0 };
-    if !parents::under(parents, child, n, v < n, places::id_at(list, p)) {
-        if parents::active(list, parents, child, n) {
-            return 4;
-        }
-        return 3;
-    }
-    if !parents::owned(subjects, child, n, subjects[p]) {
-        return 5;
-    }
-    if !parents::inside(words, whole, child, n, covers::cover_at(words, whole, p)) {
-        return 6;
-    }
-    if !parents::rootless(kinds, child, n) {
-        return 7;
+    if !parents::fit(
+        list,
+        parents,
+        words,
+        whole,
+        child,
+        kinds,
+        subjects,
+        n,
+        v < n,
+        p,
+    ) {
+        return parents::lowest(
+            list,
+            parents,
+            words,
+            whole,
+            child,
+            kinds,
+            subjects,
+            n,
+            v < n,
+            p,
+        );
     }
     if !covers::friends(words, whole, kinds, subjects, n) {
         return 8;

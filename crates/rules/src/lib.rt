@@ -8,6 +8,7 @@ mod scopes;
 mod shapes;
 mod walks;
 
+use shapes::Dirt;
 use state::LockState;
 ghost use mathlib.Core.Path.{_≡_};
 ghost use Rattle.rules.specs.Rules.{brokenRule};
@@ -31,21 +32,28 @@ pub fn broken(s: LockState) -> Verdict
     if LockState::DEFUNCT < m {
         return Verdict::Broken(0);
     }
+    let mut dirt = Dirt::nothing();
     let mut a = n;
     while a < LockState::ACTIVE {
         let x = s.active[a];
-        if !shapes::empty_active(x) {
-            return Verdict::Broken(0);
-        }
+        dirt = dirt.with_active(x);
         a += 1;
     }
+    if !dirt.is_clean() {
+        return Verdict::Broken(0);
+    }
+    let mut dust = Dirt::nothing();
     let mut d = m;
     while d < LockState::DEFUNCT {
         let y = s.defunct[d];
-        if !shapes::empty_defunct(y) {
-            return Verdict::Broken(0);
-        }
+        dust = dust.with_defunct(y);
         d += 1;
+    }
+    if !dust.is_clean() {
+        return Verdict::Broken(0);
+    }
+    if (n == 0) & (m == 0) {
+        return Verdict::Sound;
     }
     let mut list = [0u64; 2 * LockState::ACTIVE];
     let mut parents = [0u64; 2 * LockState::ACTIVE];
@@ -77,6 +85,26 @@ pub fn broken(s: LockState) -> Verdict
         subjects[i] = l.subject;
         i += 1;
     }
+    if !places::rising(&list, n) {
+        return Verdict::Broken(0);
+    }
+    // Rules 2 to 8 before rule 1, which is told first: a state without defunct locks ends here.
+    let k = actives::lowest(
+        &list,
+        &parents,
+        &words,
+        &whole,
+        &child,
+        &kinds,
+        &subjects,
+        n,
+    );
+    if m == 0 {
+        if k == 0 {
+            return Verdict::Sound;
+        }
+        return Verdict::Broken(k);
+    }
     let mut gone = [0u64; 2 * LockState::DEFUNCT];
     let mut targets = [0u64; 2 * LockState::DEFUNCT];
     let mut j: usize = 0;
@@ -91,31 +119,19 @@ pub fn broken(s: LockState) -> Verdict
         targets[2 * j + 1] = y.target.lo;
         j += 1;
     }
-    if !places::rising(&list, n) {
-        return Verdict::Broken(0);
-    }
     if !places::rising(&gone, m) {
         return Verdict::Broken(0);
     }
-    let slots = places::slots(&gone, m);
+    let mut slots = [0u8; 1024];
+    places::fill_slots(&mut slots, &gone, m);
     if !places::apart(&slots, &gone, m, &list, n) {
         return Verdict::Broken(1);
     }
-    let k = actives::lowest(
-        &list,
-        &parents,
-        &words,
-        &whole,
-        &child,
-        &kinds,
-        &subjects,
-        n,
-    );
     if k != 0 {
         return Verdict::Broken(k);
     }
     let next = walks::steps(&slots, &gone, m, &targets);
-    if !walks::leads_out(next, m) {
+    if !walks::leads_out(&next, m) {
         return Verdict::Broken(9);
     }
     Verdict::Sound

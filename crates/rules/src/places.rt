@@ -3,7 +3,7 @@
 use ids::LockId;
 ghost use mathlib.Core.Path.{_≡_};
 ghost use Prim.Native.Nat.{_+_, _*_, _≤_, _<_};
-ghost use lib.ListN.{length};
+ghost use lib.ListN.{length, replicate};
 ghost use Rattle.lists.specs.Tests.{non};
 ghost use Rattle.lists.specs.Below.{allBelow};
 ghost use Rattle.ids.specs.Order.{key};
@@ -66,22 +66,20 @@ fn slot(id: LockId) -> usize
     ((id.hi / 4294967296 % 1024 + id.lo % 1024) % 1024) as usize
 }
 
-// In each slot, one more than the last place whose id goes there; 0 where none does.
-pub(crate) fn slots(list: &[u64], n: usize) -> [u8; 1024]
-    requires { ⌜ (2 * n ≤ length (now list)) × (n ≤ 128) ⌝ }
-    ensures { λ r. ⌜ Slotted (now (list .entry)) n r ⌝ }
+// In each slot, one more than the last place whose id goes there; 0 where none does. The table comes in with all slots free.
+pub(crate) fn fill_slots(out: &mut [u8; 1024], list: &[u64], n: usize)
+    requires { ⌜ (now out ≡ replicate 1024 0) × (2 * n ≤ length (now list)) × (n ≤ 128) ⌝ }
+    ensures { λ r. ⌜ Slotted (now (list .entry)) n (now (out .exit)) ⌝ }
 {
-    let mut out = [0u8; 1024];
     let mut i: usize = 0;
     while i < n {
         let k = slot(id_at(list, i));
         i += 1;
         out[k] = i as u8;
     }
-    out
 }
 
-fn wide(x: u8) -> usize
+pub(crate) fn wide(x: u8) -> usize
     ensures { λ r. ⌜ r ≡ x ⌝ }
 {
     x as usize

@@ -1,17 +1,14 @@
 use borrow.Author.Needs.{needs}
 use mathlib.Core.Path.{_≡_, refl, _∙_}
-use Prim.Native.Nat.{ℕ, _+_, _-_, _*_, _≤_, _<_}
+use Prim.Native.Nat.{ℕ, _-_, _≤_, _<_}
 use native.Mathlib.Omega.{arith}
 use lib.ListN.{length, getD, length-set}
 use Rattle.lists.proofs.Places.{fill-more-of}
 use Rattle.rules.specs.Code.{keyAt, Sought}
 use Rattle.rules.proofs.Search.{sought-id}
+use Rattle.rules.proofs.Steps.{sought-le}
 use Rattle.rules.proofs.walks.steps.Statement.{statement}
 use Rattle.rules.proofs.walks.steps.Tie as tie
-use Rattle.rules.proofs.walks.steps.Reads as reads
-use Rattle.rules.proofs.walks.steps.Lts as lts
-use Rattle.rules.proofs.places.found.Reads as found-reads
-use Rattle.rules.proofs.places.id_at.Reads as id-at-reads
 
 abbrev Inv-loop : tie.InvT-loop
 Inv-loop slots list n targets out₀ i₀ out i = (i ≤ n) × (length out ≡ 128) × ((j : ℕ) → j < i → Sought (keyAt list) n (keyAt targets j) (getD out j 0))
@@ -28,8 +25,8 @@ id-at-requires c κs = omega arith
 found-requires : tie.Need-found-requires Inv-loop μ-loop
 found-requires c κs = search needs
 
-mul-out : tie.Need-mul-out Inv-loop μ-loop
-mul-out c = omega arith
+cast-out : tie.Need-cast-out Inv-loop μ-loop
+cast-out c = omega (arith, sought-le _ _ _ _ (c .found .ensures))
 
 array-write-out : tie.Need-array-write-out Inv-loop μ-loop
 array-write-out c = omega arith
@@ -51,7 +48,7 @@ loop-again c =
     )
 
 returns : tie.Need-returns Inv-loop μ-loop
-returns c = λ i h. c .before .loop .inv .2 i (omega arith)
+returns c = (c .before .loop .inv .1, λ i h. c .before .loop .inv .2 i (omega arith))
 
 pub steps-spec : {M : Type 1} → statement M
 steps-spec =
@@ -62,7 +59,7 @@ steps-spec =
     loop-holds
     id-at-requires
     found-requires
-    mul-out
+    cast-out
     array-write-out
     add-i
     loop-less
