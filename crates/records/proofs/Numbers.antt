@@ -17,6 +17,11 @@ unfoldable pub Bytes : List ℕ → Type 0
 Bytes [] = Unit {0}
 Bytes (x ∷ xs) = (x < 256) × Bytes xs
 
+pub bytes-of : (s : List ℕ) → ((i : ℕ) → getD s i 0 < 256) → Bytes s
+unfolding Bytes
+bytes-of [] f = tt
+bytes-of (x ∷ xs) f = (f 0, bytes-of xs (λ i. f (suc i)))
+
 pub bytes-drop : (n : ℕ) (s : List ℕ) → Bytes s → Bytes (drop n s)
 unfolding Bytes
 bytes-drop zero s k = k
@@ -96,6 +101,11 @@ digits-add (suc m) n v =
     ∙ ap (λ (l : List ℕ). v % 256 ∷ l)
     (digits-add m n (v / 256) ∙ ap (λ (k : ℕ). digits m (v / 256) ++ digits n k) (div-div-eq-div-mul v 256 (256 ^ m) ∙ ap (λ (k : ℕ). v / k) (sym (pow-succ' 256 m))))
 
+bytes-digits : (n v : ℕ) → Bytes (digits n v)
+unfolding digits Bytes
+bytes-digits zero v = tt
+bytes-digits (suc n) v = (omega arith, bytes-digits n (v / 256))
+
 pow-pos : (n : ℕ) → 0 < 256 ^ n
 pow-pos zero = lit< tt
 pow-pos (suc n) = omega (arith, pow-pos n, pow-suc 256 n)
@@ -166,15 +176,6 @@ pub little-add : (m n : ℕ) (s : List ℕ) (at : ℕ) → at + m ≤ length s
 unfolding valueOf
 little-add m n s at h = sym (ap num (part-add s at m n) ∙ num-append (part s at m) (part s (at + m) n) m (length-part s at m h))
 
-pub big-add : (m n : ℕ) (s : List ℕ) (at : ℕ) → at + m + n ≤ length s
-    → field (big m) s at * 256 ^ n + field (big n) s (at + m) ≡ field (big (m + n)) s at
-unfolding valueOf
-big-add m n s at h =
-    sym (ap (λ (l : List ℕ). num (reverse l)) (part-add s at m n)
-    ∙ ap num (reverse-append (part s at m) (part s (at + m) n))
-    ∙ num-append (reverse (part s (at + m) n)) (reverse (part s at m)) n (length-reverse (part s (at + m) n) ∙ length-part s (at + m) n h)
-    ∙ add-comm _ _)
-
 pub little-put : (m n : ℕ) (s : List ℕ) (at v : ℕ) → at + m + n ≤ length s
     → splice (splice s at (bytesOf (little m) (v % 256 ^ m))) (at + m) (bytesOf (little n) (v / 256 ^ m)) ≡ splice s at (bytesOf (little (m + n)) v)
 unfolding bytesOf
@@ -184,23 +185,32 @@ little-put m n s at v h =
     ∙ ap (λ (l : List ℕ). splice s at (l ++ digits n (v / 256 ^ m))) (digits-mod m v)
     ∙ ap (splice s at) (sym (digits-add m n v))
 
-pub big-put : (m n : ℕ) (s : List ℕ) (at v : ℕ) → at + m + n ≤ length s
-    → splice (splice s at (bytesOf (big m) (v / 256 ^ n))) (at + m) (bytesOf (big n) (v % 256 ^ n)) ≡ splice s at (bytesOf (big (m + n)) v)
-unfolding bytesOf
-big-put m n s at v h =
-    let h′ : at + m + length (reverse (digits n (v % 256 ^ n))) ≤ length s = omega (arith, length-reverse (digits n (v % 256 ^ n)), length-digits n (v % 256 ^ n)) in
-    splice-splice s at m (reverse (digits m (v / 256 ^ n))) (reverse (digits n (v % 256 ^ n))) (length-reverse (digits m (v / 256 ^ n)) ∙ length-digits m (v / 256 ^ n)) h′
-    ∙ ap (λ (l : List ℕ). splice s at (reverse (digits m (v / 256 ^ n)) ++ reverse l)) (digits-mod n v)
-    ∙ ap (splice s at) (sym (reverse-append (digits n v) (digits m (v / 256 ^ n))) ∙ ap reverse (sym (digits-add n m v)) ∙ ap (λ (k : ℕ). reverse (digits k v)) (add-comm n m))
+-- a number with its bytes in the other order
+pub swap-one : (v : ℕ) → v < 256 → v ≡ valueOf (big 1) (bytesOf (little 1) v)
+unfolding valueOf bytesOf num digits
+swap-one v h = sym (add-zero (v % 256) ∙ mod-eq-of-lt h)
 
--- a field of one byte has no order
+pub swap-add : (m n v : ℕ) → valueOf (big m) (bytesOf (little m) (v % 256 ^ m)) * 256 ^ n + valueOf (big n) (bytesOf (little n) (v / 256 ^ m)) ≡ valueOf (big (m + n)) (bytesOf (little (m + n)) v)
+unfolding valueOf bytesOf
+swap-add m n v =
+    let a : List ℕ = digits m v in
+    let b : List ℕ = digits n (v / 256 ^ m) in
+    ap (λ (l : List ℕ). num (reverse l) * 256 ^ n + num (reverse b)) (digits-mod m v)
+    ∙ sym (ap (λ (l : List ℕ). num (reverse l)) (digits-add m n v)
+    ∙ ap num (reverse-append a b)
+    ∙ num-append (reverse b) (reverse a) n (length-reverse b ∙ length-digits n (v / 256 ^ m))
+    ∙ add-comm _ _)
+
+pub swap-read : (n : ℕ) (b : List ℕ) → Bytes b → length b ≡ n → valueOf (big n) (bytesOf (little n) (valueOf (little n) b)) ≡ valueOf (big n) b
+swap-read n b k e = ap (valueOf (big n)) (bytes-value (little n) b k e)
+
+pub swap-put : (n v : ℕ) → bytesOf (little n) (valueOf (big n) (bytesOf (little n) v)) ≡ bytesOf (big n) v
+unfolding valueOf bytesOf
+swap-put n v = digits-num n (reverse (digits n v)) (bytes-reverse (digits n v) (bytes-digits n v)) (length-reverse (digits n v) ∙ length-digits n v)
+
 pub one-at : (s : List ℕ) (at : ℕ) → at < length s → getD s at 0 ≡ field (little 1) s at
 unfolding valueOf num
 one-at s at h = sym (ap num (part-one s at h) ∙ add-zero (getD s at 0))
-
-pub one-big : (s : List ℕ) (at : ℕ) → at < length s → field (little 1) s at ≡ field (big 1) s at
-unfolding valueOf num
-one-big s at h = ap num (part-one s at h) ∙ sym (ap (λ (l : List ℕ). num (reverse l)) (part-one s at h))
 
 pub put-one : (s : List ℕ) (at v : ℕ) → at < length s → v < 256 → set s at v ≡ splice s at (bytesOf (little 1) v)
 unfolding splice bytesOf digits
@@ -208,7 +218,3 @@ put-one s at v h k =
     set-split s at v h ∙ sym (append-snoc (take at s) v (drop (suc at) s))
     ∙ ap (λ (x : ℕ). take at s ++ (x ∷ []) ++ drop (suc at) s) (sym (mod-eq-of-lt k))
     ∙ ap (λ (n : ℕ). take at s ++ (v % 256 ∷ []) ++ drop n s) (sym (add-one at))
-
-pub put-one-big : (v : ℕ) → bytesOf (little 1) v ≡ bytesOf (big 1) v
-unfolding bytesOf digits
-put-one-big v = refl

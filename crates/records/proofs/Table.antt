@@ -5,43 +5,22 @@ use mathlib.Core.Option.{Option, none, some}
 use Prim.Native.Nat.{ℕ, _+_, _-_, _*_, _/_, _^_, _≤_, _<_}
 use native.Mathlib.Nat.{div-zero, zero-div, le-of-lt, mul-le-mul, mul-div-right, zero-mul}
 use native.Mathlib.Omega.{arith}
-use lib.ListN.{length, getD}
-use lib.Seq.{slice}
+use lib.ListN.{length}
 use lib.Dec.{eqb, leb, ltb}
 use borrow.Author.Tests.{le-leb, lt-leb, eq-eqb, ne-eqb, eqb-true, leb-true, ltb-true, ltb-false}
 use Rattle.lists.specs.Tests.{_and_}
 use Rattle.lists.specs.Lists.{all, find, ascending, Mem}
 use Rattle.lists.proofs.Tests.{and-t, and-f, and-l, and-r, and-i, by}
 use Rattle.lists.proofs.Lists.{all→, find→, find-key}
-use Rattle.lists.proofs.Loops.{find-yes, find-no, find-end}
 use Rattle.records.specs.declared.kinds.Kind.{Kind}
 use Rattle.records.specs.declared.kinds.Row.the-variants.{Known, Unknown}
 use Rattle.records.specs.Table.{rows, isKind, asRow, rowOf, unitsIn, possible}
 
-eleven : length rows ≡ 11
-unfolding rows
-eleven = refl
-
--- ---- the scan of the table, for the kind k
-module _ (k : ℕ) where
-  -- what was sought stands at i or after it
-  abbrev pub Sought : ℕ → Type 0
-  Sought i = (i ≤ 11) × (find (isKind k) (slice i 11 rows) ≡ find (isKind k) rows)
-
-  pub scan-start : Sought 0
-  unfolding rows
-  scan-start = (omega arith, refl)
-
-  pub scan-found : (i : ℕ) (d : Kind) → Sought i → i < 11 → getD rows i d .kind ≡ k → Known (getD rows i d) ≡ rowOf k
-  unfolding rowOf
-  scan-found i d s h e = ap asRow (sym (find-yes (isKind k) rows 11 i d h (omega (arith, eleven)) (eq-eqb _ _ e)) ∙ s .1)
-
-  pub scan-next : (i : ℕ) (d : Kind) → Sought i → i < 11 → (getD rows i d .kind ≡ k → ⊥) → Sought (i + 1)
-  scan-next i d s h e = (omega arith, sym (find-no (isKind k) rows 11 i d h (omega (arith, eleven)) (ne-eqb _ _ e)) ∙ s .1)
-
-  pub scan-end : (i : ℕ) → Sought i → 11 ≤ i → Unknown ≡ rowOf k
-  unfolding rowOf
-  scan-end i s h = ap asRow (sym (find-end (isKind k) rows 11 i (s .0) h) ∙ s .1)
+-- ---- a kind that is none of the eleven
+pub no-row : (k : ℕ) → (k ≡ 1 → ⊥) → (k ≡ 2 → ⊥) → (k ≡ 3 → ⊥) → (k ≡ 16 → ⊥) → (k ≡ 17 → ⊥) → (k ≡ 18 → ⊥) → (k ≡ 19 → ⊥) → (k ≡ 20 → ⊥) → (k ≡ 21 → ⊥) → (k ≡ 22 → ⊥) → (k ≡ 23 → ⊥)
+    → Unknown ≡ rowOf k
+unfolding rowOf rows
+no-row k h1 h2 h3 h16 h17 h18 h19 h20 h21 h22 h23 = simp (ne-eqb 1 k (λ e. h1 (sym e)), ne-eqb 2 k (λ e. h2 (sym e)), ne-eqb 3 k (λ e. h3 (sym e)), ne-eqb 16 k (λ e. h16 (sym e)), ne-eqb 17 k (λ e. h17 (sym e)), ne-eqb 18 k (λ e. h18 (sym e)), ne-eqb 19 k (λ e. h19 (sym e)), ne-eqb 20 k (λ e. h20 (sym e)), ne-eqb 21 k (λ e. h21 (sym e)), ne-eqb 22 k (λ e. h22 (sym e)), ne-eqb 23 k (λ e. h23 (sym e)))
 
 -- ---- the table's rule: one test, which antt computes over all rows
 sane : Kind → Bool

@@ -122,18 +122,25 @@ const KINDS: [Kind; COUNT] = [
     },
 ];
 
+// Each row by a place that the compiler knows: it then reads the table where that stands, and builds none for a scan.
 pub fn row_of(kind: u16) -> Row
     ensures { λ r. ⌜ r ≡ rowOf kind ⌝ }
 {
-    let mut i = 0;
-    while i < COUNT {
-        let row = KINDS[i];
-        if row.kind == kind {
-            return Row::Known(row);
-        }
-        i += 1;
+    let rows = KINDS;
+    match kind {
+        HEAD => Row::Known(rows[0]),
+        ACTIVE => Row::Known(rows[1]),
+        DEFUNCT => Row::Known(rows[2]),
+        INSERT => Row::Known(rows[3]),
+        INSERT_VEHICLE => Row::Known(rows[4]),
+        RENEW => Row::Known(rows[5]),
+        DELETE => Row::Known(rows[6]),
+        BEGIN_EXPIRATION => Row::Known(rows[7]),
+        REPLACE => Row::Known(rows[8]),
+        ACKNOWLEDGE => Row::Known(rows[9]),
+        EXPIRE_DEFUNCT => Row::Known(rows[10]),
+        _ => Row::Unknown,
     }
-    Row::Unknown
 }
 
 // How many units the length n leaves past the base.
