@@ -1,8 +1,9 @@
 -- From runs to the image's lists: what a run that was read or refused says, and the two halves of reading.
 -- Assumes nothing.
 use mathlib.Core.Path.{_≡_, refl, sym, ap, _∙_, subst}
-use mathlib.Core.Bool.{Bool, true, false, not, cond, true≢false, false≢true}
+use mathlib.Core.Bool.{Bool, true, false, cond, true≢false, false≢true}
 use mathlib.Core.List.{List, [], _∷_}
+use mathlib.Core.Logic.{_⊎_, inl, inr}
 use Prim.Native.Nat.{ℕ, zero, suc, _≤_, _<_}
 use native.Mathlib.Omega.{arith}
 use lib.ListN.{length, getD}
@@ -10,9 +11,10 @@ use lib.Dec.{eqb, ltb, leb}
 use borrow.Author.Tests.{lt-ltb, le-ltb, leb-true}
 use Rattle.lists.specs.Tests.{_and_, Yes, No}
 use Rattle.lists.specs.Places.{inPlaces}
-use Rattle.lists.proofs.Tests.{against, and-l, and-r, cond-true, cond-false, cond-both, by}
+use Rattle.lists.proofs.Tests.{and-l, and-r, cond-true, cond-false, cond-both}
 use Rattle.state.specs.declared.ActiveLock.{ActiveLock}
 use Rattle.state.specs.declared.DefunctLock.{DefunctLock}
+use Rattle.state.specs.Locks.{blankActive, blankDefunct}
 use Rattle.records.specs.declared.frame.Frame.{Frame}
 use Rattle.records.specs.declared.frame.Framed.{Framed}
 use Rattle.records.specs.declared.frame.Framed.the-variants as F
@@ -29,13 +31,12 @@ use Rattle.rules.specs.Rules.{brokenRule}
 use Rattle.image.specs.declared.Imaged.{Imaged}
 use Rattle.image.specs.declared.Reading.{Reading}
 use Rattle.image.specs.declared.Reading.the-variants.{Done, Torn, BadKind, BadField, BadOrder, UnsoundState}
-use Rattle.image.specs.declared.read.Actives.{Actives}
-use Rattle.image.specs.declared.read.Defuncts.{Defuncts}
+use Rattle.image.specs.declared.read.Begun.{Begun}
 use Rattle.image.specs.Image.{Got, stopped, got, andThen, ofFrame, recordAt, Listed, activeList, defunctList, ahead, lowAfter, runAt, Held, heldOf, listsAt, heldBy, refusal, imaged, recordsOf, judged, tested, readOn}
 use Rattle.image.specs.declared.reader.HeadStep.{HeadStep}
 use Rattle.image.specs.declared.reader.HeadStep.the-variants as head
 use Rattle.image.specs.Steps.{headStep, headAt}
-use Rattle.image.specs.Code.{isDone, toldOf, afterOf, placesOf, ranActives, ranDefuncts}
+use Rattle.image.specs.Code.{isDone, noHead, begunBy, placed}
 
 -- ---- what stops reading is a refusal
 abbrev Fault : {A : Type 0} → Got A → Type 0
@@ -158,68 +159,7 @@ module _ {R : Type 0} (e : Listed R) (strict : Bool) (s : List ℕ) where
   run-length zero low at l m q = ap length (none low at l m q .0)
   run-length (suc n) low at l m q = let f = first n low at l m q in ap length (f .all) ∙ ap suc (run-length n (lowAfter strict (e .id (f .one))) (f .next) (f .rest) m (f .others))
 
--- ---- what the code tells of a run
-pub failed : {A : Type 0} (g : Got A) (t : Reading) → t ≡ toldOf g → No (isDone t) → g ≡ stopped t
-failed (stopped x) t e k = ap stopped (sym e)
-failed (got a n) t e k = absurd (against k (ap isDone e))
-
-pub record Ran {R : Type 0} (e : Listed R) (g : Got (List R)) (n at : ℕ) (locks : List R) : Type 0 where
-  pub list : List R
-  pub is : g ≡ got list at
-  pub held : locks ≡ inPlaces (e .most) (e .blank) list
-  pub count : length list ≡ n
-
-pub ran : {R : Type 0} (e : Listed R) (strict : Bool) (s : List ℕ) (n low from : ℕ) (t : Reading) (at : ℕ) (locks : List R)
-    → t ≡ toldOf (runAt e strict s n low from) → at ≡ afterOf (runAt e strict s n low from) → locks ≡ placesOf e (runAt e strict s n low from) → Yes (isDone t) → Ran e (runAt e strict s n low from) n at locks
-ran {R} e strict s n low from t at locks et ea el k = go (runAt e strict s n low from) refl (run-fault e strict s n low from) et ea el
-  where
-    go : (g : Got (List R)) → runAt e strict s n low from ≡ g → Fault g → t ≡ toldOf g → at ≡ afterOf g → locks ≡ placesOf e g → Ran e (runAt e strict s n low from) n at locks
-    go (stopped x) q f a b d = absurd (against f (ap isDone (sym a) ∙ k))
-    go (got l m) q f a b d = record { list = l; is = q ∙ ap (got l) (sym b); held = d; count = run-length e strict s n low from l m q }
-
--- ---- both lists, from the place after HEAD on: what the code shows at each of its answers
-module _ (strict : Bool) (s : List ℕ) (h : Head) (at : ℕ) (a : Actives) (ea : a ≡ ranActives (runAt activeList strict s (h .actives) 0 at)) where
-  abbrev rest : List ActiveLock → ℕ → Got Held
-  rest xs next = andThen (runAt defunctList strict s (h .defuncts) 0 next) (λ ys end. cond (ltb end (length s)) (stopped (BadOrder end)) (got (heldOf h xs ys) end))
-
-  pub active-failed : No (isDone (a .told)) → listsAt strict s h at ≡ stopped (a .told)
-  unfolding listsAt andThen
-  active-failed k = ap (λ (g : Got (List ActiveLock)). andThen g rest) (failed (runAt activeList strict s (h .actives) 0 at) (a .told) (ap (λ (x : Actives). x .told) ea) k)
-
-  module _ (k : Yes (isDone (a .told))) where
-    pub actives : Ran activeList (runAt activeList strict s (h .actives) 0 at) (h .actives) (a .at) (a .locks)
-    actives = ran activeList strict s (h .actives) 0 at (a .told) (a .at) (a .locks) (ap (λ (x : Actives). x .told) ea) (ap (λ (x : Actives). x .at) ea) (ap (λ (x : Actives). x .locks) ea) k
-
-    lists-rest : listsAt strict s h at ≡ rest (actives .list) (a .at)
-    unfolding listsAt andThen
-    lists-rest = ap (λ (g : Got (List ActiveLock)). andThen g rest) (actives .is)
-
-    module _ (d : Defuncts) (ed : d ≡ ranDefuncts (runAt defunctList strict s (h .defuncts) 0 (a .at))) where
-      abbrev end : List DefunctLock → ℕ → Got Held
-      end ys n = cond (ltb n (length s)) (stopped (BadOrder n)) (got (heldOf h (actives .list) ys) n)
-
-      pub defunct-failed : No (isDone (d .told)) → listsAt strict s h at ≡ stopped (d .told)
-      unfolding andThen
-      defunct-failed m = lists-rest ∙ ap (λ (g : Got (List DefunctLock)). andThen g end) (failed (runAt defunctList strict s (h .defuncts) 0 (a .at)) (d .told) (ap (λ (x : Defuncts). x .told) ed) m)
-
-      module _ (m : Yes (isDone (d .told))) where
-        pub defuncts : Ran defunctList (runAt defunctList strict s (h .defuncts) 0 (a .at)) (h .defuncts) (d .at) (d .locks)
-        defuncts = ran defunctList strict s (h .defuncts) 0 (a .at) (d .told) (d .at) (d .locks) (ap (λ (x : Defuncts). x .told) ed) (ap (λ (x : Defuncts). x .at) ed) (ap (λ (x : Defuncts). x .locks) ed) m
-
-        lists-end : listsAt strict s h at ≡ end (defuncts .list) (d .at)
-        unfolding andThen
-        lists-end = lists-rest ∙ ap (λ (g : Got (List DefunctLock)). andThen g end) (defuncts .is)
-
-        pub extra : d .at < length s → listsAt strict s h at ≡ stopped (BadOrder (d .at))
-        extra q = lists-end ∙ cond-true _ _ _ (lt-ltb _ _ q)
-
-        pub all-read : length s ≤ d .at
-            → record { told = Done; spare = record { state = record { revision = h .revision; active = a .locks; actives = h .actives; defunct = d .locks; defuncts = h .defuncts }; expected = h .expected } } ≡ imaged (listsAt strict s h at)
-        all-read q =
-            (λ i. record { told = Done; spare = record { state = record { revision = h .revision; active = actives .held i; actives = sym (actives .count) i; defunct = defuncts .held i; defuncts = sym (defuncts .count) i }; expected = h .expected } })
-            ∙ sym (ap imaged (lists-end ∙ cond-false _ _ _ (le-ltb _ _ q)))
-
--- ---- the first half: by HEAD's step
+-- ---- the first half: HEAD, and what each way out of the lists says
 head-takes : (o : Got Head) (h : Head) (n : ℕ) → headStep o ≡ head.Read h n → o ≡ got h n
 head-takes (stopped x) h n e = absurd (let z : _≡_ {A = ℕ} 0 1 = cc in omega arith)
 head-takes (got b m) h n e = let p : b ≡ h = cc in let q : m ≡ n = cc in λ i. got (p i) (q i)
@@ -228,18 +168,67 @@ head-halts : (o : Got Head) (x : Reading) → headStep o ≡ head.Refused x → 
 head-halts (stopped y) x e = let p : y ≡ x = cc in ap stopped p
 head-halts (got h n) x e = absurd (let z : _≡_ {A = ℕ} 0 1 = cc in omega arith)
 
-module _ (strict : Bool) (s : List ℕ) (g : HeadStep) (q : g ≡ headAt s 0) where
-  pub head-fits : (h : Head) (next : ℕ) → g ≡ head.Read h next → (h .actives ≤ activeList .most) × (h .defuncts ≤ defunctList .most)
+module _ (s : List ℕ) (g : HeadStep) (q : g ≡ headAt s 0) where
+  pub head-read : (h : Head) (next : ℕ) → g ≡ head.Read h next → begunBy (got h next) ≡ begunBy (recordAt wire.head atHead s 0)
   unfolding headAt
-  head-fits h next e = head-counts s 0 next h (head-takes (recordAt wire.head atHead s 0) h next (sym q ∙ e))
+  head-read h next e = ap begunBy (sym (head-takes (recordAt wire.head atHead s 0) h next (sym q ∙ e)))
 
-  pub head-read : (h : Head) (next : ℕ) → g ≡ head.Read h next → imaged (listsAt strict s h next) ≡ imaged (heldBy strict s)
-  unfolding heldBy andThen headAt
-  head-read h next e = sym (ap (λ (o : Got Head). imaged (andThen o (listsAt strict s))) (head-takes (recordAt wire.head atHead s 0) h next (sym q ∙ e)))
+  pub head-refused : (x : Reading) → g ≡ head.Refused x → begunBy (stopped x) ≡ begunBy (recordAt wire.head atHead s 0)
+  unfolding headAt
+  head-refused x e = ap begunBy (sym (head-halts (recordAt wire.head atHead s 0) x (sym q ∙ e)))
 
-  pub head-failed : (x : Reading) → g ≡ head.Refused x → refusal x ≡ imaged (heldBy strict s)
-  unfolding heldBy andThen headAt
-  head-failed x e = sym (ap (λ (o : Got Head). imaged (andThen o (listsAt strict s))) (head-halts (recordAt wire.head atHead s 0) x (sym q ∙ e)))
+-- what was begun with: HEAD, or what stops reading
+pub begun-well : (s : List ℕ) (b : Begun) (o : Got Head) → recordAt wire.head atHead s 0 ≡ o → b ≡ begunBy o
+    → ((x : Reading) × (o ≡ stopped x) × (b ≡ record { told = x; head = noHead; at = 0 })) ⊎ ((o ≡ got (b .head) (b .at)) × (b .told ≡ Done))
+begun-well s b (stopped x) q e = inl (x, refl, e)
+begun-well s b (got h n) q e = inr (ap (λ (y : Begun). got (y .head) (y .at)) (sym e), ap (λ (y : Begun). y .told) e)
+
+pub head-stops : (strict : Bool) (s : List ℕ) (x : Reading) → recordAt wire.head atHead s 0 ≡ stopped x → heldBy strict s ≡ stopped x
+unfolding heldBy andThen
+head-stops strict s x e = ap (λ (o : Got Head). andThen o (listsAt strict s)) e
+
+-- both lists, of an image that begins with h
+module _ (strict : Bool) (s : List ℕ) (h : Head) (at : ℕ) (eh : recordAt wire.head atHead s 0 ≡ got h at) where
+  abbrev actives : Got (List ActiveLock)
+  actives = runAt activeList strict s (h .actives) 0 at
+
+  abbrev defuncts : ℕ → Got (List DefunctLock)
+  defuncts next = runAt defunctList strict s (h .defuncts) 0 next
+
+  abbrev end : List ActiveLock → List DefunctLock → ℕ → Got Held
+  end xs ys n = cond (ltb n (length s)) (stopped (BadOrder n)) (got (heldOf h xs ys) n)
+
+  lists : (o : Got (List ActiveLock)) → actives ≡ o → heldBy strict s ≡ andThen o (λ xs next. andThen (defuncts next) (end xs))
+  unfolding heldBy listsAt andThen
+  lists o e = ap (λ (o : Got Head). andThen o (listsAt strict s)) eh ∙ ap (λ (o : Got (List ActiveLock)). andThen o (λ xs next. andThen (defuncts next) (end xs))) e
+
+  pub active-stops : (x : Reading) → actives ≡ stopped x → heldBy strict s ≡ stopped x
+  unfolding andThen
+  active-stops x e = lists (stopped x) e
+
+  module _ (xs : List ActiveLock) (next : ℕ) (ea : actives ≡ got xs next) where
+    second : (o : Got (List DefunctLock)) → defuncts next ≡ o → heldBy strict s ≡ andThen o (end xs)
+    unfolding andThen
+    second o e = lists (got xs next) ea ∙ ap (λ (o : Got (List DefunctLock)). andThen o (end xs)) e
+
+    pub defunct-stops : (x : Reading) → defuncts next ≡ stopped x → heldBy strict s ≡ stopped x
+    unfolding andThen
+    defunct-stops x e = second (stopped x) e
+
+    module _ (ys : List DefunctLock) (n : ℕ) (ed : defuncts next ≡ got ys n) where
+      last : heldBy strict s ≡ end xs ys n
+      unfolding andThen
+      last = second (got ys n) ed
+
+      pub extra : n < length s → heldBy strict s ≡ stopped (BadOrder n)
+      extra q = last ∙ cond-true _ _ _ (lt-ltb _ _ q)
+
+      pub all-read : length s ≤ n → (active : List ActiveLock) (defunct : List DefunctLock) → active ≡ inPlaces 64 blankActive xs → defunct ≡ inPlaces 128 blankDefunct ys → placed Done h active defunct ≡ imaged (heldBy strict s)
+      all-read q active defunct pa pd =
+          let na : length xs ≡ h .actives = run-length activeList strict s (h .actives) 0 at xs next ea in
+          let nd : length ys ≡ h .defuncts = run-length defunctList strict s (h .defuncts) 0 next ys n ed in
+          (λ i. record { told = Done; spare = record { state = record { revision = h .revision; active = pa i; actives = sym na i; defunct = pd i; defuncts = sym nd i }; expected = h .expected } })
+          ∙ sym (ap imaged (last ∙ cond-false _ _ _ (le-ltb _ _ q)))
 
 -- ---- then the test
 pub tested-not : (i : Imaged) (t : Reading) → No (isDone t) → tested i t ≡ i

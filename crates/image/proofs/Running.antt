@@ -1,32 +1,26 @@
 -- A run of records: the turns of the loop that reads one, each law once for every kind.
 -- Assumes nothing.
-use mathlib.Core.Path.{_≡_, refl, sym, ap, _∙_, subst}
+use mathlib.Core.Path.{_≡_, refl, sym, ap, _∙_}
 use mathlib.Core.Bool.{Bool, true, false, not, cond, _&&_}
 use mathlib.Core.List.{List, [], _∷_, _++_, append-assoc, append-nil}
 use Prim.Native.Nat.{ℕ, zero, suc, _+_, _-_, _≤_, _<_}
 use native.Mathlib.Nat.{sub-zero}
 use native.Mathlib.Numerals.{add-one}
 use native.Mathlib.Omega.{arith}
-use lib.ListN.{length, set, replicate}
+use lib.ListN.{set, replicate}
 use lib.Dec.{ltb}
 use borrow.Author.Tests.{lt-ltb, le-ltb, ltb-true, ltb-false}
-use Rattle.lists.specs.Tests.{Yes, No}
-use Rattle.lists.specs.Places.{inPlaces, Holds}
-use Rattle.lists.proofs.Tests.{cond-true, cond-false, by}
+use Rattle.lists.specs.Places.{Holds}
+use Rattle.lists.proofs.Tests.{by}
 use Rattle.lists.proofs.Loops.{push}
 use Rattle.ids.specs.declared.LockId.{LockId}
 use Rattle.ids.specs.Order.{key, beforeId}
 use Rattle.image.specs.declared.Reading.{Reading}
 use Rattle.image.specs.declared.Reading.the-variants.{BadOrder}
 use Rattle.image.specs.Image.{Got, stopped, got, andThen, recordAt, Listed, ahead, lowAfter, runAt}
-use Rattle.image.specs.Code.{outOfOrder}
+use Rattle.image.specs.Code.{outOfOrder, lowOf, fromLow}
 
 -- ---- the order of ids
--- the lowest id that may come next: any for the first record, else what may follow the last id k
-abbrev pub lowOf : Bool → ℕ → ℕ → ℕ
-lowOf strict zero k = 0
-lowOf strict (suc i) k = lowAfter strict k
-
 not-before : (k m : ℕ) → not (ltb k m) ≡ ltb m (suc k)
 not-before k m = by (ltb k m) (not (ltb k m) ≡ ltb m (suc k))
     (λ t. rw t (sym (le-ltb m (suc k) (omega (arith, ltb-true k m t)))))
@@ -60,9 +54,24 @@ module _ {R : Type 0} (e : Listed R) (strict : Bool) where
   none-ahead (stopped x) = refl
   none-ahead (got l n) = refl
 
-  -- what follows a record at `at`: n more
-  abbrev following : List ℕ → ℕ → ℕ → ℕ → R → ℕ → Got (List R)
-  following s n low at r next = cond (ltb (e .id r) low) (stopped (BadOrder at)) (ahead e r (runAt e strict s n (lowAfter strict (e .id r)) next))
+  -- the run by its first record
+  by-first : (s : List ℕ) (n low at : ℕ) → runAt e strict s (suc n) low at ≡ andThen (fromLow e s at low) (λ r next. ahead e r (runAt e strict s n (lowAfter strict (e .id r)) next))
+  unfolding runAt fromLow andThen
+  by-first s n low at = go (recordAt (e .codec) (e .place) s at)
+    where
+      rest : R → ℕ → Got (List R)
+      rest r next = ahead e r (runAt e strict s n (lowAfter strict (e .id r)) next)
+
+      ordered : R → ℕ → Got R
+      ordered r next = cond (ltb (e .id r) low) (stopped (BadOrder at)) (got r next)
+
+      pick : (b : Bool) (r : R) (next : ℕ) → cond b (stopped (BadOrder at)) (rest r next) ≡ andThen (cond b (stopped (BadOrder at)) (got r next)) rest
+      pick true r next = refl
+      pick false r next = refl
+
+      go : (o : Got R) → andThen o (λ r next. cond (ltb (e .id r) low) (stopped (BadOrder at)) (rest r next)) ≡ andThen (andThen o ordered) rest
+      go (stopped x) = refl
+      go (got r next) = pick (ltb (e .id r) low) r next
 
   module _ (s : List ℕ) (n from : ℕ) where
     -- i records are read and stand in the first places; k is the last id
@@ -82,38 +91,33 @@ module _ {R : Type 0} (e : Listed R) (strict : Bool) where
         }
 
     module _ (locks : List R) (k at i : ℕ) (g : Going locks k at i) where
-      pub ends : n ≤ i → (runAt e strict s n 0 from ≡ got (g .list) at) × (locks ≡ inPlaces (e .most) (e .blank) (g .list))
+      pub ends : n ≤ i → runAt e strict s n 0 from ≡ got (g .list) at
       unfolding runAt
-      ends h = (
-        g .reading ∙ ap (λ (m : ℕ). allAhead (g .list) (runAt e strict s m (lowOf strict i k) at)) (let z : n - i ≡ 0 = omega arith in z)
-            ∙ ap (λ (x : List R). got x at) (append-nil (g .list)),
-        g .held .0,
-      )
+      ends h =
+          g .reading ∙ ap (λ (m : ℕ). allAhead (g .list) (runAt e strict s m (lowOf strict i k) at)) (let z : n - i ≡ 0 = omega arith in z)
+          ∙ ap (λ (x : List R). got x at) (append-nil (g .list))
 
       module _ (h : i < n) where
-        next-is : runAt e strict s n 0 from ≡ allAhead (g .list) (andThen (recordAt (e .codec) (e .place) s at) (following s (n - (i + 1)) (lowOf strict i k) at))
-        unfolding runAt
-        next-is = g .reading ∙ ap (λ (m : ℕ). allAhead (g .list) (runAt e strict s m (lowOf strict i k) at)) (let z : n - i ≡ suc (n - (i + 1)) = omega arith in z)
+        abbrev others : R → ℕ → Got (List R)
+        others r next = ahead e r (runAt e strict s (n - (i + 1)) (lowAfter strict (e .id r)) next)
 
-        pub stops : (x : Reading) → recordAt (e .codec) (e .place) s at ≡ stopped x → runAt e strict s n 0 from ≡ stopped x
+        next-is : (o : Got R) → fromLow e s at (lowOf strict i k) ≡ o → runAt e strict s n 0 from ≡ allAhead (g .list) (andThen o others)
+        next-is o q =
+            g .reading ∙ ap (λ (m : ℕ). allAhead (g .list) (runAt e strict s m (lowOf strict i k) at)) (let z : n - i ≡ suc (n - (i + 1)) = omega arith in z)
+            ∙ ap (allAhead (g .list)) (by-first s (n - (i + 1)) (lowOf strict i k) at ∙ ap (λ (o : Got R). andThen o others) q)
+
+        pub stops : (x : Reading) → fromLow e s at (lowOf strict i k) ≡ stopped x → runAt e strict s n 0 from ≡ stopped x
         unfolding andThen
-        stops x q = next-is ∙ ap (λ (o : Got R). allAhead (g .list) (andThen o (following s (n - (i + 1)) (lowOf strict i k) at))) q
+        stops x q = next-is (stopped x) q
 
-        module _ (r : R) (next : ℕ) (q : recordAt (e .codec) (e .place) s at ≡ got r next) where
-          found : runAt e strict s n 0 from ≡ allAhead (g .list) (following s (n - (i + 1)) (lowOf strict i k) at r next)
-          unfolding andThen
-          found = next-is ∙ ap (λ (o : Got R). allAhead (g .list) (andThen o (following s (n - (i + 1)) (lowOf strict i k) at))) q
-
-          pub disorders : Yes (ltb (e .id r) (lowOf strict i k)) → runAt e strict s n 0 from ≡ stopped (BadOrder at)
-          disorders t = found ∙ ap (allAhead (g .list)) (cond-true _ _ _ t)
-
-          pub turns : n ≤ e .most → No (ltb (e .id r) (lowOf strict i k)) → Going (set locks i r) (e .id r) next (i + 1)
-          turns m t =
-              record {
-                list = g .list ++ (r ∷ []);
-                most = omega arith;
-                held = push (e .most) (e .blank) (g .list) (g .list ++ (r ∷ [])) locks i r (g .held) (omega arith) refl;
-                reading =
-                    found ∙ ap (allAhead (g .list)) (cond-false _ _ _ t) ∙ ahead-ahead (g .list) r (runAt e strict s (n - (i + 1)) (lowAfter strict (e .id r)) next)
-                    ∙ ap (λ (l : ℕ). allAhead (g .list ++ (r ∷ [])) (runAt e strict s (n - (i + 1)) l next)) (sym (ap (λ (j : ℕ). lowOf strict j (e .id r)) (add-one i)));
-              }
+        pub turns : (r : R) (next : ℕ) → fromLow e s at (lowOf strict i k) ≡ got r next → n ≤ e .most → Going (set locks i r) (e .id r) next (i + 1)
+        unfolding andThen
+        turns r next q m =
+            record {
+              list = g .list ++ (r ∷ []);
+              most = omega arith;
+              held = push (e .most) (e .blank) (g .list) (g .list ++ (r ∷ [])) locks i r (g .held) (omega arith) refl;
+              reading =
+                  next-is (got r next) q ∙ ahead-ahead (g .list) r (runAt e strict s (n - (i + 1)) (lowAfter strict (e .id r)) next)
+                  ∙ ap (λ (l : ℕ). allAhead (g .list ++ (r ∷ [])) (runAt e strict s (n - (i + 1)) l next)) (sym (ap (λ (j : ℕ). lowOf strict j (e .id r)) (add-one i)));
+            }

@@ -1,19 +1,15 @@
 -- Images written: the bytes of records and of runs, the turns of the loop that writes a run, what each answer shows.
 -- Assumes nothing.
 use mathlib.Core.Path.{_≡_, refl, sym, ap, ap₂, _∙_}
-use mathlib.Core.Bool.{Bool, true, false, cond}
-use mathlib.Core.List.{List, [], _∷_, _++_, append-assoc, append-nil}
-use Prim.Native.Nat.{ℕ, zero, suc, _+_, _*_, _-_, _≤_, _<_}
+use mathlib.Core.List.{List, _++_, append-assoc}
+use Prim.Native.Nat.{ℕ, _+_, _*_, _-_, _≤_, _<_}
 use native.Mathlib.Nat.{zero-add}
 use native.Mathlib.Omega.{arith}
-use lib.ListN.{length, take, drop, getD, length-append}
-use lib.Dec.{leb, ltb}
+use lib.ListN.{length, drop, length-append}
 use borrow.Author.Tests.{le-leb, lt-ltb, le-ltb}
 use Rattle.lists.proofs.Tests.{cond-true, cond-false}
 use Rattle.records.specs.declared.kinds.Kind.{Kind}
-use Rattle.records.specs.declared.kinds.Row.{Row}
 use Rattle.records.specs.declared.kinds.Row.the-variants.{Known}
-use Rattle.records.specs.declared.bodies.Head.{Head}
 use Rattle.records.specs.Numbers.{splice}
 use Rattle.records.specs.Numbers as N
 use Rattle.records.specs.Layouts.{total}
@@ -83,15 +79,29 @@ unfolding splice
 splice-front s b = ap (λ (n : ℕ). b ++ drop n s) (zero-add (length b))
 
 -- three pieces, each stored after the one before it
-pieces : (s a b c : List ℕ) (k m : ℕ) → length a ≡ k → k + length b ≡ m → m + length c ≤ length s → splice (splice (splice s 0 a) k b) m c ≡ (a ++ (b ++ c)) ++ drop (length (a ++ (b ++ c))) s
+pub pieces : (s a b c : List ℕ) (k m : ℕ) → length a ≡ k → k + length b ≡ m → m + length c ≤ length s → splice (splice (splice s 0 a) k b) m c ≡ splice s 0 (a ++ (b ++ c))
 pieces s a b c k m ea eb h =
     let ab : length (a ++ b) ≡ m = length-append a b ∙ omega arith in
     ap (λ (n : ℕ). splice (splice (splice s 0 a) n b) m c) (sym (zero-add k))
     ∙ ap (λ (x : List ℕ). splice x m c) (splice-splice s 0 k a b ea (omega arith))
     ∙ ap (λ (n : ℕ). splice (splice s 0 (a ++ b)) n c) (sym (zero-add m))
     ∙ splice-splice s 0 m (a ++ b) c ab (omega arith)
-    ∙ splice-front s ((a ++ b) ++ c)
-    ∙ ap (λ (x : List ℕ). x ++ drop (length x) s) (append-assoc a b c)
+    ∙ ap (splice s 0) (append-assoc a b c)
+
+-- ---- a writer that doesn't test writes what one that tests does
+pub stored-fits : (b out : List ℕ) → length b ≤ length out → done (W.Done (length b)) (N.stored out 0 b) ≡ fitted b out
+unfolding N.stored
+stored-fits b out h =
+    ap (done (W.Done (length b))) (cond-true _ _ _ (le-leb (0 + length b) (length out) (omega arith)) ∙ splice-front out b)
+    ∙ sym (cond-false _ _ _ (le-ltb (length out) (length b) h))
+
+-- the bytes that are stored without a test are those of a sound state's image
+pub sound-stored : (sp : Spare) (out : List ℕ) → brokenRule (sp .state) ≡ Sound → length (imageOf (modelOf (sp .state)) (sp .expected)) ≤ length out
+    → writeOn sp out ≡ done (W.Done (length (imageOf (modelOf (sp .state)) (sp .expected)))) (N.stored out 0 (imageOf (modelOf (sp .state)) (sp .expected)))
+unfolding writeOn
+sound-stored sp out q h =
+    let b : List ℕ = imageOf (modelOf (sp .state)) (sp .expected) in
+    ap (λ (v : Verdict). writtenBy v b out) q ∙ sym (stored-fits b out h)
 
 -- ---- what the code shows at each of its answers
 module _ (sp : Spare) (out : List ℕ) (v : Verdict) (ev : v ≡ brokenRule (sp .state)) where
@@ -118,27 +128,5 @@ module _ (sp : Spare) (out : List ℕ) (v : Verdict) (ev : v ≡ brokenRule (sp 
     pub short : length out < needed → done (W.ShortOutput needed) out ≡ writeOn sp out
     short h = ap (λ (n : ℕ). done (W.ShortOutput n) out) (sym image-size) ∙ sym (cond-true _ _ _ (lt-ltb (length out) (length image) (omega (arith, image-size)))) ∙ fits
 
-    pub whole : needed ≤ length out → (s₁ s₂ s₃ : List ℕ)
-        → s₁ ≡ N.stored out 0 (recordOf 1 (encodeBy wire.head (record { revision = sp .state .revision; expected = sp .expected; actives = sp .state .actives; defuncts = sp .state .defuncts })))
-        → s₂ ≡ splice s₁ 20 (bytesOfRun activeList (take (sp .state .actives) (sp .state .active)))
-        → s₃ ≡ splice s₂ (20 + sp .state .actives * 91) (bytesOfRun defunctList (take (sp .state .defuncts) (sp .state .defunct)))
-        → done (W.Done needed) s₃ ≡ writeOn sp out
-    unfolding N.stored imageOf
-    whole h s₁ s₂ s₃ e₁ e₂ e₃ =
-        let m : Model = modelOf (sp .state) in
-        let na = active-count (sp .state) t in
-        let nd = defunct-count (sp .state) t in
-        let head : List ℕ = recordOf 1 (encodeBy wire.head (headOf m (sp .expected))) in
-        let a : List ℕ = bytesOfRun activeList (m .active) in
-        let d : List ℕ = bytesOfRun defunctList (m .defunct) in
-        let lh : length head ≡ 20 = length-whole wire.head head-plain (headOf m (sp .expected)) in
-        let la : length a ≡ length (m .active) * 91 = length-run activeList active-plain (m .active) in
-        let ld : length d ≡ length (m .defunct) * 104 = length-run defunctList defunct-plain (m .defunct) in
-        let e₁′ : s₁ ≡ splice out 0 head =
-        e₁ ∙ ap₂ (λ (x y : ℕ). N.stored out 0 (recordOf 1 (encodeBy wire.head (record { revision = sp .state .revision; expected = sp .expected; actives = x; defuncts = y })))) (sym na) (sym nd)
-        ∙ cond-true _ _ _ (le-leb (0 + length head) (length out) (omega arith)) in
-        ap (done (W.Done needed))
-        (e₃ ∙ ap (λ (x : List ℕ). splice x (20 + sp .state .actives * 91) d) (e₂ ∙ ap (λ (x : List ℕ). splice x 20 a) e₁′)
-        ∙ pieces out head a d 20 (20 + sp .state .actives * 91) lh (omega arith) (omega arith))
-        ∙ ap (λ (n : ℕ). done (W.Done n) (image ++ drop (length image) out)) (sym image-size)
-        ∙ sym (cond-false _ _ _ (le-ltb (length out) (length image) (omega (arith, image-size)))) ∙ fits
+    pub whole : needed ≤ length out → (s : List ℕ) → s ≡ N.stored out 0 image → done (W.Done needed) s ≡ writeOn sp out
+    whole h s e = ap₂ (λ (n : ℕ) (x : List ℕ). done (W.Done n) x) (sym image-size) e ∙ stored-fits image out (omega (arith, image-size)) ∙ fits

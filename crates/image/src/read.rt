@@ -14,22 +14,25 @@ use state::ActiveLock;
 use state::DefunctLock;
 use state::LockState;
 ghost use mathlib.Core.Path.{_≡_};
-ghost use Prim.Native.Nat.{_≤_};
-ghost use Rattle.image.specs.Image.{stopped, imaged, listsAt, activeList, defunctList, runAt, refusal, heldBy, recordsOf, readOn};
-ghost use Rattle.image.specs.Code.{isDone, outOfOrder, ranActives, ranDefuncts};
+ghost use Rattle.records.specs.Table.{atHead};
+ghost use Rattle.records.specs.Wire as wire;
+ghost use Rattle.image.specs.Image.{recordAt, imaged, activeList, defunctList, refusal, heldBy, recordsOf, readOn};
+ghost use Rattle.image.specs.Steps.{activeStep, defunctStep};
+ghost use Rattle.image.specs.Code.{isDone, outOfOrder, nextOf, begunBy, endedAt, placed};
 
-// A run of ACTIVE records: the locks in their places, and the place after the run.
-struct Actives {
+// HEAD and the place after it, or why there is none.
+struct Begun {
     told: Reading,
+    head: Head,
     at: usize,
-    locks: [ActiveLock; LockState::ACTIVE],
 }
 
-struct Defuncts {
-    told: Reading,
-    at: usize,
-    locks: [DefunctLock; LockState::DEFUNCT],
-}
+const NO_HEAD: Head = Head {
+    revision: 0,
+    expected: 0,
+    actives: 0,
+    defuncts: 0,
+};
 
 fn is_done(r: Reading) -> bool
     ensures { λ t. ⌜ t ≡ isDone r ⌝ }
@@ -56,26 +59,6 @@ fn refused(why: Reading) -> Imaged
     }
 }
 
-fn no_actives(why: Reading) -> Actives
-    ensures { λ r. ⌜ r ≡ ranActives (stopped why) ⌝ }
-{
-    Actives {
-        told: why,
-        at: 0,
-        locks: [state::blank_active(); LockState::ACTIVE],
-    }
-}
-
-fn no_defuncts(why: Reading) -> Defuncts
-    ensures { λ r. ⌜ r ≡ ranDefuncts (stopped why) ⌝ }
-{
-    Defuncts {
-        told: why,
-        at: 0,
-        locks: [state::blank_defunct(); LockState::DEFUNCT],
-    }
-}
-
 // Whether id may not follow last: where ids needn't strictly ascend, it still must not fall.
 fn out_of_order(strict: bool, last: LockId, id: LockId) -> bool
     ensures { λ r. ⌜ r ≡ outOfOrder strict last id ⌝ }
@@ -86,116 +69,139 @@ fn out_of_order(strict: bool, last: LockId, id: LockId) -> bool
     ids::less(id, last)
 }
 
-fn actives_at(image: &[u8], from: usize, n: usize, strict: bool) -> Actives
-    requires { ⌜ n ≤ activeList .most ⌝ }
-    ensures { λ r. ⌜ r ≡ ranActives (runAt activeList strict (now (image .entry)) n 0 from) ⌝ }
+// The next record of a run, after i others whose last id is `last`.
+fn active_after(image: &[u8], at: usize, strict: bool, i: usize, last: LockId) -> ActiveStep
+    ensures { λ r. ⌜ r ≡ activeStep (nextOf activeList strict (now (image .entry)) at i last) ⌝ }
 {
-    let mut locks = [state::blank_active(); LockState::ACTIVE];
-    let mut last = LockId { hi: 0, lo: 0 };
-    let mut at = from;
-    let mut i: usize = 0;
-    while i < n {
-        match reader::active_from(image, at) {
-            ActiveStep::Read(a, next) => {
-                let id = a.lock.id;
-                if (0 < i) & out_of_order(strict, last, id) {
-                    return no_actives(Reading::BadOrder(at));
-                }
-                locks[i] = a;
-                last = id;
-                at = next;
-                i += 1;
+    match reader::active_from(image, at) {
+        ActiveStep::Read(a, next) => {
+            let id = a.lock.id;
+            if (0 < i) & out_of_order(strict, last, id) {
+                return ActiveStep::Refused(Reading::BadOrder(at));
             }
-            ActiveStep::Refused(why) => {
-                return no_actives(why);
-            }
+            ActiveStep::Read(a, next)
         }
-    }
-    Actives {
-        told: Reading::Done,
-        at,
-        locks,
+        ActiveStep::Refused(why) => ActiveStep::Refused(why),
     }
 }
 
-fn defuncts_at(image: &[u8], from: usize, n: usize, strict: bool) -> Defuncts
-    requires { ⌜ n ≤ defunctList .most ⌝ }
-    ensures { λ r. ⌜ r ≡ ranDefuncts (runAt defunctList strict (now (image .entry)) n 0 from) ⌝ }
+fn defunct_after(image: &[u8], at: usize, strict: bool, i: usize, last: LockId) -> DefunctStep
+    ensures { λ r. ⌜ r ≡ defunctStep (nextOf defunctList strict (now (image .entry)) at i last) ⌝ }
 {
-    let mut locks = [state::blank_defunct(); LockState::DEFUNCT];
-    let mut last = LockId { hi: 0, lo: 0 };
-    let mut at = from;
-    let mut i: usize = 0;
-    while i < n {
-        match reader::defunct_from(image, at) {
-            DefunctStep::Read(d, next) => {
-                let id = d.lock.id;
-                if (0 < i) & out_of_order(strict, last, id) {
-                    return no_defuncts(Reading::BadOrder(at));
-                }
-                locks[i] = d;
-                last = id;
-                at = next;
-                i += 1;
+    match reader::defunct_from(image, at) {
+        DefunctStep::Read(d, next) => {
+            let id = d.lock.id;
+            if (0 < i) & out_of_order(strict, last, id) {
+                return DefunctStep::Refused(Reading::BadOrder(at));
             }
-            DefunctStep::Refused(why) => {
-                return no_defuncts(why);
-            }
+            DefunctStep::Read(d, next)
         }
-    }
-    Defuncts {
-        told: Reading::Done,
-        at,
-        locks,
+        DefunctStep::Refused(why) => DefunctStep::Refused(why),
     }
 }
 
-// Both lists, from the place after HEAD on.
-fn lists_at(image: &[u8], h: Head, at: usize, strict: bool) -> Imaged
-    requires { ⌜ (h .actives ≤ activeList .most) × (h .defuncts ≤ defunctList .most) ⌝ }
-    ensures { λ r. ⌜ r ≡ imaged (listsAt strict (now (image .entry)) h at) ⌝ }
+fn begin(image: &[u8]) -> Begun
+    ensures { λ r. ⌜ r ≡ begunBy (recordAt wire.head atHead (now (image .entry)) 0) ⌝ }
 {
-    let actives = h.actives as usize;
-    let defuncts = h.defuncts as usize;
-    let a = actives_at(image, at, actives, strict);
-    let told = a.told;
-    if !is_done(told) {
-        return refused(told);
+    match reader::head_from(image, 0) {
+        HeadStep::Read(head, at) => Begun {
+            told: Reading::Done,
+            head,
+            at,
+        },
+        HeadStep::Refused(why) => Begun {
+            told: why,
+            head: NO_HEAD,
+            at: 0,
+        },
     }
-    let d = defuncts_at(image, a.at, defuncts, strict);
-    let why = d.told;
-    if !is_done(why) {
-        return refused(why);
+}
+
+// Where reading went well up to `at`, whether it ends there.
+fn at_end(told: Reading, at: usize, end: usize) -> Reading
+    ensures { λ r. ⌜ r ≡ endedAt told at end ⌝ }
+{
+    if is_done(told) & (at < end) {
+        return Reading::BadOrder(at);
     }
-    let end = d.at;
-    if end < image.len() {
-        return refused(Reading::BadOrder(end));
-    }
-    let active = a.locks;
-    let defunct = d.locks;
+    told
+}
+
+fn held(
+    told: Reading,
+    h: Head,
+    active: [ActiveLock; LockState::ACTIVE],
+    defunct: [DefunctLock; LockState::DEFUNCT],
+) -> Imaged
+    ensures { λ r. ⌜ r ≡ placed told h active defunct ⌝ }
+{
     Imaged {
-        told: Reading::Done,
+        told,
         spare: Spare {
             state: LockState {
                 revision: h.revision,
                 active,
-                actives,
+                actives: h.actives as usize,
                 defunct,
-                defuncts,
+                defuncts: h.defuncts as usize,
             },
             expected: h.expected,
         },
     }
 }
 
-// The records alone, their ids in strict order or only not falling.
+// The records alone, their ids in strict order or only not falling. Both lists are read into their places here, and a refusal
+// leaves by the same way out: a function for each list and a return for each refusal would copy them.
 fn records_by(image: &[u8], strict: bool) -> Imaged
     ensures { λ r. ⌜ r ≡ imaged (heldBy strict (now (image .entry))) ⌝ }
 {
-    match reader::head_from(image, 0) {
-        HeadStep::Read(h, at) => lists_at(image, h, at, strict),
-        HeadStep::Refused(why) => refused(why),
+    let begun = begin(image);
+    let mut told = begun.told;
+    let mut head = begun.head;
+    let mut actives = head.actives as usize;
+    let mut defuncts = head.defuncts as usize;
+    let mut active = [state::blank_active(); LockState::ACTIVE];
+    let mut last = LockId { hi: 0, lo: 0 };
+    let mut at = begun.at;
+    let mut i: usize = 0;
+    while i < actives {
+        match active_after(image, at, strict, i, last) {
+            ActiveStep::Read(a, next) => {
+                active[i] = a;
+                last = a.lock.id;
+                at = next;
+                i += 1;
+            }
+            ActiveStep::Refused(why) => {
+                told = why;
+                actives = 0;
+                defuncts = 0;
+            }
+        }
     }
+    let mut defunct = [state::blank_defunct(); LockState::DEFUNCT];
+    i = 0;
+    while i < defuncts {
+        match defunct_after(image, at, strict, i, last) {
+            DefunctStep::Read(d, next) => {
+                defunct[i] = d;
+                last = d.lock.id;
+                at = next;
+                i += 1;
+            }
+            DefunctStep::Refused(why) => {
+                told = why;
+                defuncts = 0;
+            }
+        }
+    }
+    told = at_end(told, at, image.len());
+    if !is_done(told) {
+        head = NO_HEAD;
+        active = [state::blank_active(); LockState::ACTIVE];
+        defunct = [state::blank_defunct(); LockState::DEFUNCT];
+    }
+    held(told, head, active, defunct)
 }
 
 // The first half: the records alone, without the sound-state test.
@@ -208,15 +214,16 @@ pub fn read_records(image: &[u8]) -> Imaged
 pub fn read_image(image: &[u8]) -> Imaged
     ensures { λ r. ⌜ r ≡ readOn (now (image .entry)) ⌝ }
 {
-    let r = read_records(image);
+    let mut r = read_records(image);
     let told = r.told;
     if !is_done(told) {
         return r;
     }
-    let spare = r.spare;
-    let state = spare.state;
-    match rules::broken(state) {
-        Verdict::Sound => r,
-        Verdict::Broken(n) => refused(Reading::UnsoundState(n)),
+    match rules::broken(r.spare.state) {
+        Verdict::Sound => {}
+        Verdict::Broken(n) => {
+            r = refused(Reading::UnsoundState(n));
+        }
     }
+    r
 }

@@ -1,6 +1,6 @@
 use native.Mathlib.Omega.{arith}
 use Rattle.lists.proofs.Loops.{length-of-mapped}
-use Rattle.image.proofs.Stores.{cap-small, size-of}
+use Rattle.image.proofs.Stores.{capped, cap-small, size-of}
 use borrow.Author.Needs.{needs}
 use Rattle.image.proofs.write.image_size.Statement.{statement}
 use Rattle.image.proofs.write.image_size.Tie as tie
@@ -27,7 +27,7 @@ add-result-2 : tie.Need-add-result-2
 add-result-2 c = omega (arith, cap-small (c .before .before .before .args .spare .state .defuncts) 128 (c .at-most2 .result) (c .at-most2 .ensures), cap-small (c .before .before .before .args .spare .state .actives) 64 (c .before .at-most .result) (c .before .at-most .ensures))
 
 returns : tie.Need-returns
-returns c = size-of (c .before .before .before .args .spare) _ _ (search (needs, length-of-mapped)) (search (needs, length-of-mapped)) (c .before .at-most .ensures) (c .at-most2 .ensures)
+returns c = size-of (c .before .before .before .args .spare) _ _ (capped _ _ _ _ (search (needs, length-of-mapped)) (c .before .at-most .ensures)) (capped _ _ _ _ (search (needs, length-of-mapped)) (c .at-most2 .ensures))
 
 pub image-size-spec : {M : Type 1} → statement M
 image-size-spec =

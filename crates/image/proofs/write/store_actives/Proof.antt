@@ -1,5 +1,4 @@
 use native.Mathlib.Omega.{arith}
-use denote.Ref.{now}
 use Rattle.lists.proofs.Loops.{length-of-mapped}
 use Rattle.image.specs.Image.{activeList, bytesOfOne}
 use Rattle.image.proofs.Writes.{length-one, active-plain}
