@@ -3,7 +3,7 @@
 use mathlib.Core.Path.{_≡_, refl, sym, ap, _∙_}
 use mathlib.Core.Bool.{Bool, true, false, cond}
 use mathlib.Core.List.{List, [], _∷_, _++_, map}
-use Prim.Native.Nat.{ℕ, _+_, _-_, _≤_, _<_}
+use Prim.Native.Nat.{ℕ, _+_, _-_, _<_}
 use native.Mathlib.Omega.{arith}
 use lib.ListN.{length, take, replicate, length-map}
 use Rattle.lists.specs.Lists.{filter}
@@ -18,6 +18,7 @@ use Rattle.operations.specs.Trees.{isListed}
 use Rattle.operations.specs.Checks.{checkChild, lastRevision}
 use Rattle.operations.specs.Insert.{insertedIn}
 use Rattle.operations.specs.Vehicle.{nest, adopt, adopting, vehicleIn, judgeVehicle}
+use Rattle.rules.specs.Rules.{rule9}
 use Rattle.operations.specs.Code.{Placed, Ready, flagged, altered}
 use Rattle.operations.proofs.Flags.{marked-filter, marks-front, alter-front}
 use Rattle.operations.proofs.Going.{placed-count}
@@ -65,9 +66,11 @@ module _ (p : ActiveLock → Bool) (x : ActiveLock) where
     adopting-model = ap modelOf adopting-is ∙ model-of-state (adopting p x (modelOf s))
 
     pub adopting-ready : Ready withActive
+    unfolding rule9
     adopting-ready = record {
       tidy = rw adopting-is (tidy-of (adopting p x (modelOf s)) (omega (arith, length-map (modelOf s .active) (adopt p x), active-count s (h .tidy), h .tidy .active)) (defunct-room s (h .tidy)));
       order = h .order;
+      free = h .free;
     }
 
     pub adopting-inserted : (n : LockState) → n ≡ stateOf (insertedIn (modelOf withActive) x) → n ≡ stateOf (insertedIn (adopting p x (modelOf s)) x)

@@ -1,7 +1,7 @@
 -- What `deleteOn` and `beginExpirationOn` are in each case of their tests.
 -- Assumes nothing.
-use mathlib.Core.Bool.{Bool, true, false, cond}
-use mathlib.Core.List.{List, []}
+use mathlib.Core.Bool.{true, false}
+use mathlib.Core.List.{[]}
 use mathlib.Core.Option.{Option, none, some}
 use mathlib.Core.Path.{_≡_, refl, sym, ap, _∙_}
 use Prim.Native.Nat.{ℕ, _+_}
@@ -12,17 +12,14 @@ use Rattle.ids.specs.declared.LockId.{LockId}
 use Rattle.state.specs.declared.ActiveLock.{ActiveLock}
 use Rattle.state.specs.declared.LockState.{LockState}
 use Rattle.state.specs.Locks.{hasId}
-use Rattle.state.specs.Model.{Model, modelOf, stateOf, Tidy}
+use Rattle.state.specs.Model.{modelOf, stateOf, Tidy}
 use Rattle.state.proofs.Laws.{defunct-count, defunct-in}
 use Rattle.rules.specs.declared.Verdict.the-variants.{Sound}
 use Rattle.rules.specs.Rules.{brokenRule}
-use Rattle.lookups.specs.Reads.{onSound}
 use Rattle.lookups.proofs.Verdicts.{on-sound}
-use Rattle.operations.specs.declared.answers.Deletion.{Deletion}
 use Rattle.operations.specs.declared.answers.Deletion.the-variants as deletion
 use Rattle.operations.specs.declared.answers.Expiration.{Expiration}
 use Rattle.operations.specs.declared.answers.Expiration.the-variants as expiration
-use Rattle.operations.specs.declared.answers.Deleted.{Deleted}
 use Rattle.operations.specs.declared.answers.Expired.{Expired}
 use Rattle.operations.specs.declared.trees.Split.{Split}
 use Rattle.operations.specs.Trees.{Parts, startParts, treeParts}
@@ -70,10 +67,6 @@ module _ (s : LockState) (i : LockId) where
   unfolding deleteFound
   not-there = refl
 
-  pub there : (r : ActiveLock) → deleteFound s (r .lock .id) (some r) ≡ deleteFound s i (some r)
-  unfolding deleteFound
-  there r = refl
-
 module _ (s : LockState) (i : LockId) (now : ℕ) where
   pub stale : expired expiration.Stale [] s ≡ expireFound s i now none
   unfolding expireFound
@@ -85,6 +78,6 @@ module _ (s : LockState) (i : LockId) (now : ℕ) where
     not-due e = rw e
 
     -- "else as delete"
-    pub due : brokenRule s ≡ Sound → find (hasId i) (modelOf s .active) ≡ some r → ltb now (r .expires) ≡ false → asExpired (deleteFound s (r .lock .id) (some r)) ≡ expireFound s i now (some r)
+    pub due : ltb now (r .expires) ≡ false → asExpired (deleteOn s i) ≡ expireFound s i now (some r)
     unfolding expireFound
-    due w f e = rw e (ap asExpired (there s i r ∙ deletion-of s i w (some r) f))
+    due e = rw e

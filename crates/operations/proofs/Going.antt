@@ -2,7 +2,7 @@
 -- Assumes nothing.
 use mathlib.Core.Bool.{Bool, true, false, cond}
 use mathlib.Core.List.{List, [], _∷_, _++_, map, append-assoc, append-nil, List·Memᴰ·head, List·Memᴰ·tail, List·Memᴰ·append-cases, List·Memᴰ·not-nil, List·Memᴰ·eq-of-singleton}
-use mathlib.Core.Logic.{_⊎_, inl, inr}
+use mathlib.Core.Logic.{inl, inr}
 use mathlib.Core.Path.{_≡_, refl, sym, ap, subst, _∙_}
 use Prim.Native.Nat.{ℕ, zero, suc, _+_, _-_, _≤_, _<_}
 use native.Mathlib.Numerals.{add-one}
@@ -25,23 +25,7 @@ use Rattle.lookups.specs.Reads.{narrow}
 use Rattle.operations.specs.declared.trees.Places.{Places}
 use Rattle.operations.specs.declared.trees.Split.{Split}
 use Rattle.operations.specs.Trees.{Parts, childOf, takeParts, treeParts, rootParts, cutAll, rootsParts, startParts, isListed}
-use Rattle.operations.specs.Code.{picks, Placed, Cut, partsOf, splitOf, Halves, upTo, startHalves, lockAt, partsIn, takeHalves, picksAt, treeHalves, rootHalves, cutHalves, halvesOf, placesOf, Low, Sorting}
-
--- ---- the steps by their numbers
-module _ (n : ℕ) (r a : ActiveLock) (b : Bool) where
-  pub picks-0 : n ≡ 0 → b ≡ childOf r a → b ≡ picks n r a
-  unfolding picks
-  picks-0 e q = rw e q
-
-  pub picks-1 : n ≡ 1 → b ≡ narrow r a → b ≡ picks n r a
-  unfolding picks
-  picks-1 e q = rw e q
-
-pub picks-2 : (n : ℕ) (r a : ActiveLock) (b : Bool) → (n ≡ 0 → ⊥) → (n ≡ 1 → ⊥) → b ≡ hasId (r .lock .id) a → b ≡ picks n r a
-unfolding picks
-picks-2 zero r a b e f q = absurd (e refl)
-picks-2 (suc zero) r a b e f q = absurd (f refl)
-picks-2 (suc (suc n)) r a b e f q = q
+use Rattle.operations.specs.Code.{picks, Placed, Cut, partsOf, splitOf, Halves, upTo, startHalves, lockAt, partsIn, takeHalves, picksAt, treeHalves, rootHalves, cutHalves, halvesOf, placesOf, Low, Sorting, marked, markedTree, markedRoot, rootsHalves}
 
 -- ---- one pass of two outputs
 module _ {A : Type 0} (p : A → Bool) (b d : A) (l g₀ : List A) (i : ℕ) (r : Bool) (j : i < length l) (q : r ≡ p (getD l i d)) where
@@ -180,29 +164,80 @@ start-fine : (n : ℕ) → n ≤ 64 → Fine (startHalves n)
 start-fine n h = record { few = omega (arith, up-long n); stays = λ j m. omega (arith, up-below n j m); rises = up-rises n; goes = λ j m. absurd (List·Memᴰ·not-nil m) }
 
 -- ---- one tree, step by step
-module _ (s a : Places) (l : List ActiveLock) (r : ActiveLock) (c : Sorting s) (p : a ≡ placesOf (takeHalves (picksAt 0 l r) (halvesOf s))) where
+module _ (q0 q1 q2 : ℕ → Bool) (s a : Places) (c : Sorting s) (p : a ≡ placesOf (takeHalves q0 (halvesOf s))) where
   pub step-1 : Sorting a
-  step-1 = rw p (sorting-of _ (take-fine (picksAt 0 l r) (halvesOf s) (fine-of s c)))
+  step-1 = rw p (sorting-of _ (take-fine q0 (halvesOf s) (fine-of s c)))
 
-  module _ (b : Places) (q : b ≡ placesOf (takeHalves (picksAt 1 l r) (halvesOf a))) where
-    second : b ≡ placesOf (takeHalves (picksAt 1 l r) (takeHalves (picksAt 0 l r) (halvesOf s)))
-    second = q ∙ ap (λ (h : Halves). placesOf (takeHalves (picksAt 1 l r) h)) (ap halvesOf p ∙ halves-back (takeHalves (picksAt 0 l r) (halvesOf s)))
+  module _ (b : Places) (q : b ≡ placesOf (takeHalves q1 (halvesOf a))) where
+    second : b ≡ placesOf (takeHalves q1 (takeHalves q0 (halvesOf s)))
+    second = q ∙ ap (λ (h : Halves). placesOf (takeHalves q1 h)) (ap halvesOf p ∙ halves-back (takeHalves q0 (halvesOf s)))
 
     pub step-2 : Sorting b
-    step-2 = rw second (sorting-of _ (take-fine (picksAt 1 l r) _ (take-fine (picksAt 0 l r) (halvesOf s) (fine-of s c))))
+    step-2 = rw second (sorting-of _ (take-fine q1 _ (take-fine q0 (halvesOf s) (fine-of s c))))
 
-    pub step-3 : (x : Places) → x ≡ placesOf (takeHalves (picksAt 2 l r) (halvesOf b)) → x ≡ placesOf (treeHalves l r (halvesOf s))
-    step-3 x k = k ∙ ap (λ (h : Halves). placesOf (takeHalves (picksAt 2 l r) h)) (ap halvesOf second ∙ halves-back (takeHalves (picksAt 1 l r) (takeHalves (picksAt 0 l r) (halvesOf s))))
+    pub step-3 : (x : Places) → x ≡ placesOf (takeHalves q2 (halvesOf b)) → x ≡ placesOf (takeHalves q2 (takeHalves q1 (takeHalves q0 (halvesOf s))))
+    step-3 x k = k ∙ ap (λ (h : Halves). placesOf (takeHalves q2 h)) (ap halvesOf second ∙ halves-back (takeHalves q1 (takeHalves q0 (halvesOf s))))
 
 -- ---- a root
-module _ (s : Places) (l : List ActiveLock) (r : ActiveLock) (c : Sorting s) (b : Bool) (e : b ≡ any (hasId (r .lock .id)) (map (lockAt l) (halvesOf s .kept))) where
-  pub root-here : (x : Places) → b ≡ true → x ≡ placesOf (treeHalves l r (halvesOf s)) → x ≡ placesOf (rootHalves l r (halvesOf s))
-  unfolding rootHalves
-  root-here x t k = let f : any (hasId (r .lock .id)) (map (lockAt l) (halvesOf s .kept)) ≡ true = sym e ∙ t in rw f k
+module _ (cs ns rs : List Bool) (s : Places) (c : Sorting s) (b : Bool) (e : b ≡ any (marked rs) (halvesOf s .kept)) where
+  pub root-here : (x : Places) → b ≡ true → x ≡ placesOf (markedTree cs ns rs (halvesOf s)) → x ≡ placesOf (markedRoot cs ns rs (halvesOf s))
+  unfolding markedRoot
+  root-here x t k = let f : any (marked rs) (halvesOf s .kept) ≡ true = sym e ∙ t in rw f k
 
-  pub root-not : b ≡ false → s ≡ placesOf (rootHalves l r (halvesOf s))
-  unfolding rootHalves
-  root-not t = let f : any (hasId (r .lock .id)) (map (lockAt l) (halvesOf s .kept)) ≡ false = sym e ∙ t in rw f (sym (c .same))
+  pub root-not : b ≡ false → s ≡ placesOf (markedRoot cs ns rs (halvesOf s))
+  unfolding markedRoot
+  root-not t = let f : any (marked rs) (halvesOf s .kept) ≡ false = sym e ∙ t in rw f (sym (c .same))
+
+-- ---- marks that say of the first n places what the steps pick, where no later place stays
+abbrev Below : ℕ → Halves → Type 0
+Below n h = (j : ℕ) → Mem j (h .kept) → j < n
+
+take-below : (n : ℕ) (q : ℕ → Bool) (h : Halves) → Below n h → Below n (takeHalves q h)
+take-below n q h f j m = f j (filter→ (λ i. non (q i)) (h .kept) m .0)
+
+root-below : (n : ℕ) (l : List ActiveLock) (r : ActiveLock) (h : Halves) → Below n h → Below n (rootHalves l r h)
+unfolding rootHalves
+root-below n l r h f = go (any (hasId (r .lock .id)) (map (lockAt l) (h .kept)))
+  where
+    go : (b : Bool) → Below n (cond b (treeHalves l r h) h)
+    go true = take-below n (picksAt 2 l r) (takeHalves (picksAt 1 l r) (takeHalves (picksAt 0 l r) h)) (take-below n (picksAt 1 l r) (takeHalves (picksAt 0 l r) h) (take-below n (picksAt 0 l r) h f))
+    go false = f
+
+all-below : (n : ℕ) (l rs : List ActiveLock) (h : Halves) → Below n h → Below n (cutHalves l rs h)
+all-below n l [] h f = f
+all-below n l (r ∷ rs) h f = all-below n l rs (rootHalves l r h) (root-below n l r h f)
+
+filter-on : {A : Type 0} (p q : A → Bool) (ks : List A) → ((j : A) → Mem j ks → p j ≡ q j) → filter p ks ≡ filter q ks
+filter-on p q [] f = refl
+filter-on p q (k ∷ ks) f = rw (f k (List·Memᴰ·head refl)) (ap (λ t. cond (q k) (k ∷ t) t) (filter-on p q ks (λ j m. f j (List·Memᴰ·tail m))))
+
+any-on : {A : Type 0} (p q : A → Bool) (ks : List A) → ((j : A) → Mem j ks → p j ≡ q j) → any p ks ≡ any q ks
+any-on p q [] f = refl
+any-on p q (k ∷ ks) f = rw (f k (List·Memᴰ·head refl)) (ap (λ (b : Bool). q k or b) (any-on p q ks (λ j m. f j (List·Memᴰ·tail m))))
+
+take-on : (p q : ℕ → Bool) (h : Halves) → ((j : ℕ) → Mem j (h .kept) → p j ≡ q j) → takeHalves p h ≡ takeHalves q h
+take-on p q h f = λ j. record {
+  kept = filter-on (λ i. non (p i)) (λ i. non (q i)) (h .kept) (λ i m. ap non (f i m)) j;
+  gone = ap (λ (t : List ℕ). h .gone ++ t) (filter-on p q (h .kept) f) j;
+}
+
+abbrev pub Says : ℕ → List Bool → (ℕ → Bool) → Type 0
+Says n marks q = (j : ℕ) → j < n → getD marks j false ≡ q j
+
+module _ (n : ℕ) (l : List ActiveLock) (r : ActiveLock) (cs ns rs : List Bool) (fc : Says n cs (picksAt 0 l r)) (fn : Says n ns (picksAt 1 l r)) (fr : Says n rs (picksAt 2 l r)) (h : Halves) (k : Below n h) where
+  tree-on : markedTree cs ns rs h ≡ treeHalves l r h
+  tree-on =
+      let one = takeHalves (picksAt 0 l r) h in
+      let two = takeHalves (picksAt 1 l r) one in
+      ap (λ (y : Halves). takeHalves (marked rs) (takeHalves (marked ns) y)) (take-on (marked cs) (picksAt 0 l r) h (λ j m. fc j (k j m)))
+      ∙ ap (takeHalves (marked rs)) (take-on (marked ns) (picksAt 1 l r) one (λ j m. fn j (take-below n (picksAt 0 l r) h k j m)))
+      ∙ take-on (marked rs) (picksAt 2 l r) two (λ j m. fr j (take-below n (picksAt 1 l r) one (take-below n (picksAt 0 l r) h k) j m))
+
+  root-on : markedRoot cs ns rs h ≡ rootHalves l r h
+  unfolding markedRoot rootHalves picks
+  root-on =
+      ap (λ (b : Bool). cond b (markedTree cs ns rs h) h) (any-on (marked rs) (picksAt 2 l r) (h .kept) (λ j m. fr j (k j m)) ∙ any-map (lockAt l) (hasId (r .lock .id)) (h .kept))
+      ∙ ap (λ (t : Halves). cond (any (hasId (r .lock .id)) (map (lockAt l) (h .kept))) t h) tree-on
 
 -- ---- the locks at the places
 map-filter : {A B : Type 0} (f : A → B) (p : B → Bool) (ks : List A) → map f (filter (λ j. p (f j)) ks) ≡ filter p (map f ks)
@@ -263,9 +298,11 @@ module _ (n : ℕ) (h : n ≤ 64) (s : Places) (e : s ≡ placesOf (startHalves 
   pub start-sorting : Sorting s
   start-sorting = rw e (sorting-of (startHalves n) (start-fine n h))
 
-  module _ (l : List ActiveLock) (r : ActiveLock) (t : Places) (f : t ≡ placesOf (treeHalves l r (halvesOf s))) where
+  module _ (l : List ActiveLock) (r : ActiveLock) (cs ns rs : List Bool) (fc : Says n cs (picksAt 0 l r)) (fn : Says n ns (picksAt 1 l r)) (fr : Says n rs (picksAt 2 l r)) (t : Places) (f : t ≡ placesOf (markedTree cs ns rs (halvesOf s))) where
     cut-is : t ≡ placesOf (treeHalves l r (startHalves n))
-    cut-is = f ∙ ap (λ (h : Halves). placesOf (treeHalves l r h)) (ap halvesOf e ∙ halves-back (startHalves n))
+    cut-is =
+        f ∙ ap (λ (h : Halves). placesOf (markedTree cs ns rs h)) (ap halvesOf e ∙ halves-back (startHalves n))
+        ∙ ap placesOf (tree-on n l r cs ns rs fc fn fr (startHalves n) (up-below n))
 
     pub tree-sorting : Sorting t
     tree-sorting = rw cut-is (sorting-of _ (tree-fine l r (startHalves n) (start-fine n h)))
@@ -288,20 +325,25 @@ module _ (ws : List ℕ) (l : List ActiveLock) (n i : ℕ) (p : Placed l n) (out
   out-sorting = rw q (sorting-of (halvesAt ws l n i) (all-fine l (filter (isListed ws) (take i l)) (startHalves n) (start-fine n (p .room))))
 
   module _ (d : ActiveLock) (h : i < length l) (b : Bool) (e : b ≡ isListed ws (getD l i d)) where
-    pub roots-more : (r : Places) → b ≡ true → r ≡ placesOf (rootHalves l (getD l i d) (halvesOf out)) → r ≡ placesOf (halvesAt ws l n (i + 1))
-    roots-more r t k =
-        k ∙ ap (λ (y : Halves). placesOf (rootHalves l (getD l i d) y)) (ap halvesOf q ∙ halves-back (halvesAt ws l n i))
+    pub roots-more : (cs ns rs : List Bool) → Says n cs (picksAt 0 l (getD l i d)) → Says n ns (picksAt 1 l (getD l i d)) → Says n rs (picksAt 2 l (getD l i d)) → (r : Places) → b ≡ true → r ≡ placesOf (markedRoot cs ns rs (halvesOf out)) → r ≡ placesOf (halvesAt ws l n (i + 1))
+    roots-more cs ns rs fc fn fr r t k =
+        k ∙ ap (λ (y : Halves). placesOf (markedRoot cs ns rs y)) (ap halvesOf q ∙ halves-back (halvesAt ws l n i))
+        ∙ ap placesOf (root-on n l (getD l i d) cs ns rs fc fn fr (halvesAt ws l n i) (all-below n l (filter (isListed ws) (take i l)) (startHalves n) (up-below n)))
         ∙ ap placesOf (sym (all-more l (filter (isListed ws) (take i l)) (getD l i d) (startHalves n)))
         ∙ ap (λ (x : List ActiveLock). placesOf (cutHalves l x (startHalves n))) (sym (keep-yes (isListed ws) l i d h (sym e ∙ t)))
 
     pub roots-same : b ≡ false → out ≡ placesOf (halvesAt ws l n (i + 1))
     roots-same t = q ∙ ap (λ (x : List ActiveLock). placesOf (cutHalves l x (startHalves n))) (sym (keep-no (isListed ws) l i d h (sym e ∙ t)))
 
-  pub roots-end : i ≡ n → (x : Split) → x ≡ splitOf (partsIn l (halvesOf out)) → x ≡ splitOf (rootsParts ws (take n l))
+-- after all of them
+module _ (ws : List ℕ) (l : List ActiveLock) (n : ℕ) (p : Placed l n) (out : Places) (q : out ≡ placesOf (rootsHalves ws l n)) where
+  pub roots-sorting : Sorting out
+  roots-sorting = out-sorting ws l n n p out q
+
+  pub roots-split : (x : Split) → x ≡ splitOf (partsIn l (halvesOf out)) → x ≡ splitOf (rootsParts ws (take n l))
   unfolding rootsParts
-  roots-end e x k =
-      k ∙ ap (λ (y : Places). splitOf (partsIn l (halvesOf y))) q ∙ ap (λ (y : Halves). splitOf (partsIn l y)) (halves-back (halvesAt ws l n i))
-      ∙ ap (λ (m : ℕ). splitOf (partsIn l (halvesAt ws l n m))) e
+  roots-split x k =
+      k ∙ ap (λ (y : Places). splitOf (partsIn l (halvesOf y))) q ∙ ap (λ (y : Halves). splitOf (partsIn l y)) (halves-back (rootsHalves ws l n))
       ∙ ap splitOf (all-in l (filter (isListed ws) (take n l)) (startHalves n) ∙ ap (cutAll (filter (isListed ws) (take n l))) (start-in l n (placed-long l n p)))
 
 -- ---- how many there are in all

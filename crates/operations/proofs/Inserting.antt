@@ -3,40 +3,38 @@
 use mathlib.Core.Path.{_≡_, refl, sym, ap, _∙_}
 use mathlib.Core.Bool.{Bool, true, false, not, cond, true≢false}
 use mathlib.Core.List.{List}
-use Prim.Native.Nat.{ℕ, suc, _+_, _≤_, _<_}
+use Prim.Native.Nat.{ℕ, _+_, _≤_, _<_}
 use native.Mathlib.Omega.{arith}
-use lib.Dec.{eqb, leb}
-use lib.ListN.{length, take, length-take}
+use lib.Dec.{eqb}
+use lib.ListN.{length, set, take}
 use borrow.Author.Tests.{eqb-true, eqb-false, le-leb, lt-leb, not-true, not-false}
-use Rattle.lists.specs.Tests.{_and_, non, Yes}
-use Rattle.lists.specs.Lists.{any, insertBy, ascending}
+use Rattle.lists.specs.Tests.{_and_, non}
+use Rattle.lists.specs.Lists.{any, filter, insertBy}
 use Rattle.lists.specs.Places.{inPlaces, opened}
 use Rattle.lists.proofs.Tests.{by, cond-true, cond-false, and-f, and-i, and-r, non-t, non-f}
 use Rattle.lists.proofs.Lists.{length-insert}
-use Rattle.ids.specs.declared.LockId.{LockId}
+use Rattle.lists.proofs.Shifts.{shiftedUp, up-end}
 use Rattle.state.specs.declared.ActiveLock.{ActiveLock}
-use Rattle.state.specs.declared.DefunctLock.{DefunctLock}
 use Rattle.state.specs.declared.LockState.{LockState}
-use Rattle.state.specs.Locks.{akey, dkey, blankActive, blankDefunct}
+use Rattle.state.specs.Locks.{akey, blankActive, blankDefunct}
 use Rattle.state.specs.Model.{Model, modelOf, stateOf, full, fits, Tidy}
-use Rattle.state.proofs.Laws.{active-count, defunct-count, active-in, defunct-in}
+use Rattle.state.proofs.Laws.{active-count, defunct-count, active-in, defunct-in, length-places, tidy-of}
 use Rattle.rules.specs.declared.Verdict.{Verdict}
 use Rattle.rules.specs.declared.Verdict.the-variants.{Sound, Broken}
-use Rattle.rules.specs.Rules.{brokenRule, inOrder}
+use Rattle.rules.specs.Rules.{rule9, brokenRule, inOrder, isSound}
 use Rattle.rules.proofs.Sound.{facts-of-state, tidy-of-sound}
 use Rattle.lookups.specs.Reads.{onSound}
 use Rattle.lookups.proofs.Verdicts.{on-broken, on-sound}
 use Rattle.operations.specs.declared.answers.Answer.{Answer}
 use Rattle.operations.specs.declared.answers.Answer.the-variants.{Done, NoRoom, Invariant, UnsoundState}
 use Rattle.operations.specs.declared.answers.Inserted.{Inserted}
-use Rattle.operations.specs.declared.defuncts.Table.{Table}
-use Rattle.operations.specs.Answers.{isDone, refuseIf, andThen}
-use Rattle.operations.specs.Defuncts.{superseded, supersede}
-use Rattle.operations.specs.Checks.{checkRevision, checkRoom, lastRevision}
+use Rattle.operations.specs.Answers.{isDone, refuseIf}
+use Rattle.operations.specs.Defuncts.{removeAll, superseded, supersede}
+use Rattle.operations.specs.Checks.{checkRoom, lastRevision}
 use Rattle.operations.specs.Insert.{insertedIn, inserted, closedInsert, settledInsert}
-use Rattle.operations.specs.Code.{Placed, Ready, placeOf, entriesOf, tableOf, Laid, Ranked, judgeBundled, insertedBy}
+use Rattle.operations.specs.Code.{Placed, Ready, placeOf, judgeBundled, withEntries}
 use Rattle.operations.proofs.Going.{placed-count}
-use Rattle.operations.proofs.Leaving.{supersede-le, supersede-none, entries-back, laid-of}
+use Rattle.operations.proofs.Leaving.{supersede-le, supersede-none}
 use Rattle.operations.proofs.Coming.{place-le, put-in}
 use Rattle.operations.proofs.Closing.{lists-test, closed-sound, closed-broken}
 use Rattle.operations.proofs.Chains.{refuse, go-on, first-done, rest-done, revision-left}
@@ -73,7 +71,7 @@ module _ (m : Model) (x : ActiveLock) (n : ℕ) (e : length (m .active) ≡ n) (
 -- v is what the test answered
 pub tested : (s : LockState) (v : Verdict) → v ≡ brokenRule s → v ≡ Sound → length (s .active) ≡ 64 → length (s .defunct) ≡ 128 → Ready s
 unfolding inOrder
-tested s v e f la ld = let q : brokenRule s ≡ Sound = sym e ∙ f in record { tidy = tidy-of-sound s la ld q; order = and-r _ _ (facts-of-state s q .order) }
+tested s v e f la ld = let q : brokenRule s ≡ Sound = sym e ∙ f in record { tidy = tidy-of-sound s la ld q; order = and-r _ _ (facts-of-state s q .order); free = facts-of-state s q .nine }
 
 pub ready : (s : LockState) → length (s .active) ≡ 64 → length (s .defunct) ≡ 128 → brokenRule s ≡ Sound → Ready s
 ready s la ld q = tested s (brokenRule s) refl q la ld
@@ -86,55 +84,68 @@ module _ (s : LockState) (t : Tidy s) where
   defunct-room = omega (arith, defunct-count s t, t .defunct)
 
 -- ---- the change
-module _ (s : LockState) (h : Ready s) (x : ActiveLock) (a : List ActiveLock) (f : a ≡ inPlaces 64 blankActive (insertBy akey x (modelOf s .active))) where
-  one-more : s .actives + 1 ≡ length (insertBy akey x (modelOf s .active))
+abbrev pub withActives : LockState → List ActiveLock → LockState
+withActives s l = record { revision = s .revision; active = l; actives = s .actives; defunct = s .defunct; defuncts = s .defuncts }
+
+-- the lock x in its place k, those after it having moved up in m: y
+module _ (s : LockState) (h : Ready s) (x : ActiveLock) (r : s .actives < 64) (k : ℕ) (e : k ≡ placeOf akey (x .lock .id) (modelOf s .active)) (m : LockState) (f : m ≡ withActives s (shiftedUp (s .active) k (s .actives))) where
+  abbrev list : List ActiveLock
+  list = insertBy akey x (modelOf s .active)
+
+  abbrev withLock : LockState
+  withLock = record { revision = s .revision + 1; active = inPlaces 64 blankActive list; actives = s .actives + 1; defunct = s .defunct; defuncts = s .defuncts }
+
+  abbrev y : LockState
+  y = record { revision = m .revision + 1; active = set (m .active) k x; actives = s .actives + 1; defunct = m .defunct; defuncts = m .defuncts }
+
+  one-more : s .actives + 1 ≡ length list
   one-more = omega (arith, length-insert akey x (modelOf s .active), active-count s (h .tidy))
 
+  put-is : y ≡ withLock
+  put-is =
+      let p = active-placed s (h .tidy) in
+      let w : length (s .active) ≡ 64 = ap length (sym (active-in s (h .tidy))) ∙ length-places 64 blankActive (modelOf s .active) (omega (arith, active-count s (h .tidy), h .tidy .active)) in
+      ap (λ (z : LockState). record { revision = z .revision + 1; active = set (z .active) k x; actives = s .actives + 1; defunct = z .defunct; defuncts = z .defuncts }) f
+      ∙ ap (λ (l : List ActiveLock). record { revision = s .revision + 1; active = l; actives = s .actives + 1; defunct = s .defunct; defuncts = s .defuncts })
+      (up-end (s .active) k (s .actives) x blankActive (active-place (s .active) (s .actives) p x k e) (omega arith) ∙ active-put (s .active) (s .actives) p x k e r _ refl)
+
+  put-tidy : Tidy withLock
+  put-tidy = rw put-state (tidy-of (record { revision = s .revision + 1; active = list; defunct = modelOf s .defunct }) (omega (arith, one-more)) (defunct-room s (h .tidy)))
+    where
+      put-state : withLock ≡ stateOf (record { revision = s .revision + 1; active = list; defunct = modelOf s .defunct })
+      put-state = λ j. record {
+        revision = s .revision + 1;
+        active = inPlaces 64 blankActive list;
+        actives = one-more j;
+        defunct = sym (defunct-in s (h .tidy)) j;
+        defuncts = sym (defunct-count s (h .tidy)) j;
+      }
+
+  pub put-ready : Ready y
+  unfolding rule9
+  put-ready = rw put-is (record { tidy = put-tidy; order = h .order; free = h .free })
+
   -- nothing is superseded
-  pub change-none : any (superseded x) (modelOf s .defunct) ≡ false → record { revision = s .revision + 1; active = a; actives = s .actives + 1; defunct = s .defunct; defuncts = s .defuncts } ≡ stateOf (insertedIn (modelOf s) x)
+  pub put-none : any (superseded x) (modelOf y .defunct) ≡ false → y ≡ stateOf (insertedIn (modelOf s) x)
   unfolding insertedIn
-  change-none e = λ j. record {
+  put-none n = put-is ∙ (λ j. record {
     revision = s .revision + 1;
-    active = f j;
+    active = inPlaces 64 blankActive list;
     actives = one-more j;
     defunct = (sym (defunct-in s (h .tidy)) ∙ ap (inPlaces 128 blankDefunct) stay) j;
     defuncts = (sym (defunct-count s (h .tidy)) ∙ ap length stay) j;
-  }
+  })
     where
       stay : modelOf s .defunct ≡ supersede x (modelOf s .defunct)
-      stay = sym (supersede-none x (modelOf s .defunct) e)
+      stay = sym (supersede-none x (modelOf s .defunct) (sym (ap (λ (z : LockState). any (superseded x) (modelOf z .defunct)) put-is) ∙ n))
 
-  module _ (w : Table) (e : w ≡ tableOf (modelOf s .defunct)) where
-    pub wide-ranked : Ranked w
-    wide-ranked = rw e (record { laid = laid-of (modelOf s .defunct) (omega (arith, defunct-room s (h .tidy))); order = rw (entries-back (modelOf s .defunct)) (h .order) })
-
-    module _ (u : Table) (g : u ≡ tableOf (supersede x (entriesOf w))) where
-      table-is : u ≡ tableOf (supersede x (modelOf s .defunct))
-      table-is = g ∙ ap (λ (t : Table). tableOf (supersede x (entriesOf t))) e ∙ ap (λ (l : List DefunctLock). tableOf (supersede x l)) (entries-back (modelOf s .defunct))
-
-      pub table-room : u .count ≤ 128
-      table-room = omega (arith, ap (λ (t : Table). t .count) table-is, supersede-le x (modelOf s .defunct), defunct-room s (h .tidy))
-
-      pub change-some : (d : List DefunctLock) → d ≡ inPlaces 128 blankDefunct (entriesOf u) → record { revision = s .revision + 1; active = a; actives = s .actives + 1; defunct = d; defuncts = u .count } ≡ stateOf (insertedIn (modelOf s) x)
-      unfolding insertedIn
-      change-some d k = λ j. record {
-        revision = s .revision + 1;
-        active = f j;
-        actives = one-more j;
-        defunct = (k ∙ ap (λ (t : Table). inPlaces 128 blankDefunct (entriesOf t)) table-is ∙ ap (inPlaces 128 blankDefunct) (entries-back (supersede x (modelOf s .defunct)))) j;
-        defuncts = ap (λ (t : Table). t .count) table-is j;
-      }
+  pub put-some : (z : LockState) → z ≡ withEntries y (removeAll (filter (superseded x) (modelOf y .defunct)) (modelOf y .defunct)) → z ≡ stateOf (insertedIn (modelOf s) x)
+  unfolding insertedIn supersede
+  put-some z q =
+      q ∙ ap (λ (u : LockState). withEntries u (removeAll (filter (superseded x) (modelOf u .defunct)) (modelOf u .defunct))) put-is
+      ∙ ap (λ (n : ℕ). record { revision = s .revision + 1; active = inPlaces 64 blankActive list; actives = n; defunct = inPlaces 128 blankDefunct (supersede x (modelOf s .defunct)); defuncts = length (supersede x (modelOf s .defunct)) }) one-more
 
 -- ---- the answer: refused, or changed and tested again
-module _ (s n : LockState) (v : Verdict) (e : v ≡ brokenRule n) where
-  pub closed-yes : v ≡ Sound → inserted Done n ≡ insertedBy s n
-  unfolding insertedBy
-  closed-yes f = sym (closed-sound n (inserted Done n) (inserted Invariant s) v e f)
-
-  pub closed-no : (k : ℕ) → v ≡ Broken k → inserted Invariant s ≡ insertedBy s n
-  unfolding insertedBy
-  closed-no k f = sym (closed-broken n (inserted Done n) (inserted Invariant s) v e k f)
-
 -- j is the judgement of the state s, m the change, a what the judge answered
 module _ (s : LockState) (j : Answer) (m : Model) (v : Verdict) (e : v ≡ brokenRule s) where
   abbrev answered : Inserted
@@ -155,10 +166,21 @@ module _ (s : LockState) (j : Answer) (m : Model) (v : Verdict) (e : v ≡ broke
         pub put-allowed : isDone j ≡ true
         put-allowed = ap isDone (sym g) ∙ sym h ∙ not-false d t
 
-        pub put-done : (n : LockState) (r : Inserted) → n ≡ stateOf m → r ≡ insertedBy s n → r ≡ answered
-        unfolding settledInsert closedInsert insertedBy
-        put-done n r k z =
-            z ∙ ap (insertedBy s) k ∙ ap (λ (b : Bool). cond b (inserted Done (stateOf m)) (inserted Invariant s)) (lists-test m) ∙ sym (cond-true (isDone j) (closedInsert full s m) (inserted j s) put-allowed) ∙ on-sound s (λ n. inserted (UnsoundState n) s) (settledInsert full j s m) v e f
+        -- n is the next state, w what its test told: the closing check
+        module _ (n : LockState) (k : n ≡ stateOf m) (w : Verdict) (q : w ≡ brokenRule n) where
+          closing : cond (isSound (brokenRule n)) (inserted Done n) (inserted Invariant s) ≡ answered
+          unfolding settledInsert closedInsert
+          closing =
+              ap (λ (x : LockState). cond (isSound (brokenRule x)) (inserted Done x) (inserted Invariant s)) k
+              ∙ ap (λ (b : Bool). cond b (inserted Done (stateOf m)) (inserted Invariant s)) (lists-test m)
+              ∙ sym (cond-true (isDone j) (closedInsert full s m) (inserted j s) put-allowed)
+              ∙ on-sound s (λ n. inserted (UnsoundState n) s) (settledInsert full j s m) v e f
+
+          pub put-done : w ≡ Sound → inserted Done n ≡ answered
+          put-done u = sym (closed-sound n (inserted Done n) (inserted Invariant s) w q u) ∙ closing
+
+          pub put-undone : (i : ℕ) → w ≡ Broken i → inserted Invariant s ≡ answered
+          put-undone i u = sym (closed-broken n (inserted Done n) (inserted Invariant s) w q i u) ∙ closing
 
 -- ---- insert_active: what the judgement leaves
 module _ (s : LockState) (k : Tidy s) (x : ActiveLock) (t : isDone (judgeBundled full (modelOf s) x) ≡ true) where

@@ -4,10 +4,14 @@ pub mod Over
 pub mod Flags
 pub mod Going
 pub mod Leaving
+pub mod Landing
+pub mod Passing
 pub mod Coming
 pub mod Chains
 pub mod Inserting
+pub mod Joining
 pub mod Finding
+pub mod Seeing
 pub mod Refusing
 pub mod Listing
 pub mod Adopting

@@ -14,12 +14,12 @@ module _ {A : Type 0} where
   over f a = f ++ drop (length f) a
 
   -- what is past the list is the array's
-  over-read : (f a : List A) (k : ℕ) (d : A) → length f ≤ k → getD (over f a) k d ≡ getD a k d
+  pub over-read : (f a : List A) (k : ℕ) (d : A) → length f ≤ k → getD (over f a) k d ≡ getD a k d
   over-read f a k d h =
       let e : k ≡ length f + (k - length f) = omega arith in
       ap (λ (n : ℕ). getD (over f a) n d) e ∙ getD-append-add f (drop (length f) a) (k - length f) d ∙ getD-drop (length f) a (k - length f) d ∙ ap (λ (n : ℕ). getD a n d) (sym e)
 
-  over-push : (f a : List A) (x d : A) (w : ℕ) → w ≡ length f → w < length a → set (over f a) w x ≡ over (f ++ (x ∷ [])) a
+  pub over-push : (f a : List A) (x d : A) (w : ℕ) → w ≡ length f → w < length a → set (over f a) w x ≡ over (f ++ (x ∷ [])) a
   over-push f a x d w e h =
       let g : length f < length a = omega arith in
       let m : length (f ++ (x ∷ [])) ≡ suc (length f) = length-append f (x ∷ []) ∙ add-one (length f) in

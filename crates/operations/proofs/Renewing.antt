@@ -9,26 +9,23 @@ use lib.Dec.{leb, eqb}
 use types.Run.{OneOf, miss}
 use denote.Enum.Declared.{tagOf}
 use borrow.Author.Tests.{eq-eqb}
-use lib.ListN.{length, getD, set, take, replicate, length-set}
+use lib.ListN.{length, getD, set, replicate, length-set}
 use lib.Seq.{set-append-left}
-use Rattle.lists.specs.Tests.{Yes}
 use Rattle.lists.specs.Lists.{ascending}
 use Rattle.lists.proofs.First.{change-one}
 use Rattle.ids.specs.declared.LockId.{LockId}
 use Rattle.ids.specs.Order.{key}
 use Rattle.state.specs.declared.ActiveLock.{ActiveLock}
 use Rattle.state.specs.declared.LockState.{LockState}
-use Rattle.state.specs.Locks.{akey, hasId, blankActive, blankDefunct}
+use Rattle.state.specs.Locks.{akey, hasId, blankActive}
 use Rattle.state.specs.Model.{Model, modelOf, stateOf, Tidy}
 use Rattle.state.proofs.Laws.{active-count, active-in, defunct-count, defunct-in}
-use Rattle.rules.specs.declared.Verdict.{Verdict}
-use Rattle.rules.specs.declared.Verdict.the-variants.{Sound, Broken}
+use Rattle.rules.specs.declared.Verdict.the-variants.{Sound}
 use Rattle.rules.specs.Rules.{brokenRule}
 use Rattle.lookups.proofs.Verdicts.{on-sound}
 use Rattle.operations.proofs.Finding.{active-at, found-none, found-lock}
 use Rattle.operations.specs.declared.answers.Renewal.{Renewal}
 use Rattle.operations.specs.declared.answers.Renewal.the-variants.{Done, ActiveLockNotFound, RevisionOverflow, LockExpired, RenewalNotExtension, UnsoundState}
-use Rattle.operations.specs.declared.answers.Renewed.{Renewed}
 use Rattle.operations.proofs.answers.Renewal.{the-type}
 use Rattle.operations.specs.Answers.{refuseIf}
 use Rattle.operations.specs.Checks.{atLast}
@@ -116,5 +113,5 @@ module _ (s : LockState) (i : LockId) (e now : ℕ) (has : Bool) (d : ℕ) (w : 
         unfolding renewedIn
         made = with-lock s t k h x ∙ ap (λ (l : List ActiveLock). stateOf (record { revision = s .revision + 1; active = l; defunct = modelOf s .defunct })) (sym change)
 
-        pub done : renewed Done (withLock s k x) ≡ renewOn s i e now has d
-        done = ap (renewed Done) made ∙ settled Done (judged ∙ f)
+        pub done : renewed a (withLock s k x) ≡ renewOn s i e now has d
+        done = ap (λ (z : Renewal). renewed z (withLock s k x)) f ∙ ap (renewed Done) made ∙ settled Done (judged ∙ f)

@@ -1,13 +1,13 @@
 -- A replacement: the holder of the scope, the table and the lists in their places, and the whole from its parts.
 -- Assumes nothing.
 use mathlib.Core.Path.{_≡_, refl, sym, ap, subst, _∙_}
-use mathlib.Core.Bool.{Bool, true, false, not, cond, _&&_, _||_, true≢false}
-use mathlib.Core.List.{List, [], _∷_, map}
+use mathlib.Core.Bool.{Bool, true, false, not, cond, _&&_, _||_}
+use mathlib.Core.List.{List, [], map}
 use Prim.Native.Nat.{ℕ, suc, _+_, _≤_, _<_}
 use native.Mathlib.Omega.{arith}
 use lib.Dec.{eqb, ltb, leb}
-use lib.ListN.{length, take, length-map}
-use borrow.Author.Tests.{eqb-true, eqb-false, ltb-true, ltb-false, le-leb, lt-leb, not-true, not-false}
+use lib.ListN.{length, getD, take, replicate, length-map}
+use borrow.Author.Tests.{eqb-true, eqb-false, ltb-true, ltb-false, le-leb, lt-leb}
 use Rattle.lists.specs.Tests.{_and_, _or_, non, Yes}
 use Rattle.lists.specs.Lists.{any, filter, insertBy, ascending}
 use Rattle.lists.specs.Places.{inPlaces}
@@ -18,7 +18,7 @@ use Rattle.state.specs.declared.DefunctLock.{DefunctLock}
 use Rattle.state.specs.declared.LockState.{LockState}
 use Rattle.state.specs.Locks.{akey, dkey, isVehicle, hasId, normal, blankActive, blankDefunct}
 use Rattle.state.specs.Model.{Model, modelOf, stateOf, full, fits, Tidy}
-use Rattle.state.proofs.Laws.{back, active-count, defunct-count}
+use Rattle.state.proofs.Laws.{active-count}
 use Rattle.rules.specs.declared.Verdict.{Verdict}
 use Rattle.rules.specs.declared.Verdict.the-variants.{Sound, Broken}
 use Rattle.rules.specs.Rules.{brokenRule}
@@ -28,21 +28,20 @@ use Rattle.operations.specs.declared.answers.Answer.{Answer}
 use Rattle.operations.specs.declared.answers.Answer.the-variants.{Done, ReplacementScopeConflict, NoRoom, Invariant, UnsoundState}
 use Rattle.operations.specs.declared.answers.Replaced.{Replaced}
 use Rattle.operations.specs.declared.defuncts.Table.{Table}
+use Rattle.operations.specs.declared.entering.Ledger.{Ledger}
 use Rattle.operations.specs.declared.trees.Split.{Split}
-use Rattle.operations.specs.Answers.{isDone, refuseIf, andThen, firstRefusal}
-use Rattle.operations.specs.Defuncts.{toDefunct, enterAll, supersede}
+use Rattle.operations.specs.Answers.{isDone, andThen, firstRefusal}
+use Rattle.operations.specs.Defuncts.{toDefunct, enterAll, superseded, supersede}
 use Rattle.operations.specs.Trees.{Parts}
 use Rattle.operations.specs.Checks.{checkList, checkRevision, checkChild, checkRoom, outside, checkHolder, lastRevision}
-use Rattle.operations.specs.Vehicle.{nest, adopt}
+use Rattle.operations.specs.Vehicle.{adopt}
 use Rattle.operations.specs.Replace.{orphan, cutOf, enteredOf, replacedIn, judgeReplace, replaced, closedReplace, settledReplace, commitReplacementWith, commitReplacementOn}
-use Rattle.operations.specs.Code.{Placed, Ready, Cut, partsOf, splitOf, entriesOf, tableOf, Laid, Ranked, flagged, altered, checkInsert, checkEntry, replacedBy, leftIn, judgeLeft, leftOn}
-use Rattle.operations.proofs.Going.{placed-count, kept-count, kept-placed, parts-back, cut-of, roots-size}
-use Rattle.operations.proofs.Leaving.{entries-back, laid-of}
+use Rattle.operations.specs.Code.{Placed, Ready, Cut, partsOf, splitOf, entriesOf, tableOf, Laid, Ranked, unflagged, handOn, checkInsert, checkEntry, replacedBy, leftIn, judgeLeft, leftOn, Listed}
+use Rattle.operations.proofs.Going.{placed-count, kept-count, parts-back, cut-of, roots-size}
+use Rattle.operations.proofs.Leaving.{entries-back, laid-of, shed-all, shed-by}
 use Rattle.operations.proofs.Coming.{enter-length}
 use Rattle.operations.proofs.Closing.{lists-test, closed-sound, closed-broken}
 use Rattle.operations.proofs.Chains.{refuse, go-on, and-then, first-done, rest-done, revision-left}
-use Rattle.operations.proofs.Inserting.{active-placed, defunct-room}
-use Rattle.operations.proofs.Adopting.{children-are, taken}
 use Rattle.operations.proofs.Bundles.{judge-replace}
 use Rattle.operations.proofs.Ordering.{entered-order}
 
@@ -66,9 +65,6 @@ module _ (x : ActiveLock) (by at : ℕ) (g : List ActiveLock) (t : List DefunctL
   pub wide-laid : Laid w
   wide-laid = rw e (laid-of t (omega arith))
 
-  pub wide-count : w .count ≤ 128
-  wide-count = rw e ht
-
   module _ (u : Table) (f : u ≡ tableOf (enterAll (map (toDefunct x by at) g) (entriesOf w))) where
     all-in : u ≡ tableOf (enterAll (map (toDefunct x by at) g) t)
     all-in = f ∙ ap (λ (y : Table). tableOf (enterAll (map (toDefunct x by at) g) (entriesOf y))) e ∙ ap (λ (l : List DefunctLock). tableOf (enterAll (map (toDefunct x by at) g) l)) (entries-back t)
@@ -83,7 +79,21 @@ module _ (x : ActiveLock) (by at : ℕ) (g : List ActiveLock) (t : List DefunctL
     unfolding enteredOf
     entered-all r k = k ∙ ap (λ (y : Table). tableOf (supersede x (entriesOf y))) all-in ∙ ap (λ (l : List DefunctLock). tableOf (supersede x l)) (entries-back (enterAll (map (toDefunct x by at) g) t))
 
+    -- what is left of the table once all that the new lock covers have handed on and are left out
+    module _ (goes : List Bool) (wg : u .count ≤ length goes) (marks : (j : ℕ) → j < u .count → getD goes j false ≡ superseded x (getD (u .entries) j blankDefunct)) (m : List DefunctLock) (q : take (u .count) m ≡ handOn goes (u .count) (entriesOf u)) where
+      pub sifted : unflagged (take (u .count) goes) (take (u .count) m) ≡ enteredOf x by at g t
+      unfolding supersede
+      sifted =
+          let l = unflagged (take (u .count) goes) (take (u .count) m) in
+          sym (entries-back l)
+          ∙ ap entriesOf (entered-all (tableOf l) (shed-by u (entered-ranked .laid) (superseded x) goes wg marks (tableOf l) (shed-all u entered-ranked goes wg m q (tableOf l) refl)))
+          ∙ entries-back (enteredOf x by at g t)
+
 -- ---- the answers
+-- nothing removed
+pub none-removed : (b : ActiveLock) → b ≡ blankActive → (a : Answer) (s : LockState) → record { told = record { answer = a; gone = 0; removed = replicate 64 b }; state = s } ≡ replaced a [] s
+none-removed b e a s = λ j. record { told = record { answer = a; gone = 0; removed = replicate 64 (e j) }; state = s }
+
 module _ (s n : LockState) (gone : ℕ) (removed : List ActiveLock) (h : Placed removed gone) (v : Verdict) (e : v ≡ brokenRule n) where
   pub shut-broken : (k : ℕ) → v ≡ Broken k → (r : Replaced) → r ≡ replaced Invariant [] s → r ≡ replacedBy s (take gone removed) n
   unfolding replacedBy
@@ -115,34 +125,30 @@ module _ (s : LockState) (h : Ready s) (q : Split) (c : Cut q) (x : ActiveLock) 
   pub gone-placed : Placed (q .removed) (q .gone)
   gone-placed = record { room = omega (arith, c .room); same = ap (λ (y : Split). y .removed) (c .same) }
 
-  module _ (takes : List Bool) (e : takes ≡ inPlaces 64 false (map (orphan x) (p .kept))) (a : Answer)
-      (g : a ≡ andThen (checkInsert (p .kept) x) (andThen (checkRevision (s .revision)) (firstRefusal (checkChild x) (flagged (take (q .left) takes) (p .kept))))) (b : Bool) (f : b ≡ isDone a) where
-    told : andThen (checkInsert (p .kept) x) (andThen (checkRevision (s .revision)) (firstRefusal (checkChild x) (filter (orphan x) (p .kept)))) ≡ a
-    told = sym (g ∙ ap (λ (y : Answer). andThen (checkInsert (p .kept) x) (andThen (checkRevision (s .revision)) y)) (children-are (orphan x) x (p .kept) (q .left) takes e (kept-count q c)))
-
+  module _ (a : Answer) (g : a ≡ andThen (checkInsert (p .kept) x) (andThen (checkRevision (s .revision)) (firstRefusal (checkChild x) (filter (orphan x) (p .kept))))) (b : Bool) (f : b ≡ isDone a) where
     judge-is : judgeLeft m p x by at ≡ andThen a (checkRoom full (leftIn m p x by at))
     unfolding judgeLeft
     judge-is =
         ap (andThen (checkInsert (p .kept) x)) (sym (and-then (checkRevision (s .revision)) (firstRefusal (checkChild x) (filter (orphan x) (p .kept))) (checkRoom full (leftIn m p x by at))))
         ∙ sym (and-then (checkInsert (p .kept) x) (andThen (checkRevision (s .revision)) (firstRefusal (checkChild x) (filter (orphan x) (p .kept)))) (checkRoom full (leftIn m p x by at)))
-        ∙ ap (λ (y : Answer). andThen y (checkRoom full (leftIn m p x by at))) told
+        ∙ ap (λ (y : Answer). andThen y (checkRoom full (leftIn m p x by at))) (sym g)
 
-    pub left-refused : not b ≡ true → (r : Replaced) → r ≡ replaced a [] s → r ≡ leftOn s p x by at
+    pub left-refused : b ≡ false → (r : Replaced) → r ≡ replaced a [] s → r ≡ leftOn s p x by at
     unfolding leftOn andThen
     left-refused t r k =
-        let u : isDone a ≡ false = sym f ∙ not-true b t in
+        let u : isDone a ≡ false = sym f ∙ t in
         let j : judgeLeft m p x by at ≡ a = judge-is ∙ cond-false (isDone a) (checkRoom full (leftIn m p x by at)) a u in
         k ∙ ap (λ (y : Answer). replaced y [] s) (sym j) ∙ refused-is (judgeLeft m p x by at) s (p .gone) (leftIn m p x by at) (ap isDone j ∙ u)
 
-    module _ (t : not b ≡ false) where
+    module _ (t : b ≡ true) where
       rest-is : judgeLeft m p x by at ≡ checkRoom full (leftIn m p x by at)
       unfolding andThen
-      rest-is = judge-is ∙ cond-true (isDone a) (checkRoom full (leftIn m p x by at)) a (sym f ∙ not-false b t)
+      rest-is = judge-is ∙ cond-true (isDone a) (checkRoom full (leftIn m p x by at)) a (sym f ∙ t)
 
       pub left-revision : s .revision ≡ lastRevision → ⊥
-      left-revision = revision-left (s .revision) (first-done _ _ (rest-done (checkInsert (p .kept) x) _ (ap isDone told ∙ sym f ∙ not-false b t)))
+      left-revision = revision-left (s .revision) (first-done _ _ (rest-done (checkInsert (p .kept) x) _ (ap isDone (sym g) ∙ sym f ∙ t)))
 
-      module _ (u : Table) (k : u ≡ tableOf (enteredOf x by at (p .gone) (m .defunct))) where
+      module _ (u : Ledger) (k : Listed u (enteredOf x by at (p .gone) (m .defunct))) where
         room-is : fits full (leftIn m p x by at) ≡ non (eqb (q .left) 64 || ltb 128 (u .count))
         unfolding fits leftIn
         room-is = rw or-code (cases (eqb (q .left) 64) (fits full (leftIn m p x by at) ≡ non (eqb (q .left) 64 or ltb 128 (u .count)))
@@ -154,8 +160,8 @@ module _ (s : LockState) (h : Ready s) (q : Split) (c : Cut q) (x : ActiveLock) 
 
             second : eqb (q .left) 64 ≡ false → leb (length (enteredOf x by at (p .gone) (m .defunct))) 128 ≡ non (eqb (q .left) 64 or ltb 128 (u .count))
             second y = cases (ltb 128 (u .count)) (leb (length (enteredOf x by at (p .gone) (m .defunct))) 128 ≡ non (eqb (q .left) 64 or ltb 128 (u .count)))
-                (λ z. lt-leb (length (enteredOf x by at (p .gone) (m .defunct))) 128 (omega (arith, ltb-true 128 (u .count) z, ap (λ (o : Table). o .count) k)) ∙ sym (non-t _ (or-f _ _ y ∙ z)))
-                (λ z. le-leb (length (enteredOf x by at (p .gone) (m .defunct))) 128 (omega (arith, ltb-false 128 (u .count) z, ap (λ (o : Table). o .count) k)) ∙ sym (non-f _ (or-f _ _ y ∙ z)))
+                (λ z. lt-leb (length (enteredOf x by at (p .gone) (m .defunct))) 128 (omega (arith, ltb-true 128 (u .count) z, k .count)) ∙ sym (non-t _ (or-f _ _ y ∙ z)))
+                (λ z. le-leb (length (enteredOf x by at (p .gone) (m .defunct))) 128 (omega (arith, ltb-false 128 (u .count) z, k .count)) ∙ sym (non-f _ (or-f _ _ y ∙ z)))
 
         pub left-full : (eqb (q .left) 64 || ltb 128 (u .count)) ≡ true → (r : Replaced) → r ≡ replaced NoRoom [] s → r ≡ leftOn s p x by at
         unfolding leftOn checkRoom isDone
@@ -173,33 +179,23 @@ module _ (s : LockState) (h : Ready s) (q : Split) (c : Cut q) (x : ActiveLock) 
           unfolding checkRoom isDone
           done = ap isDone (rest-is ∙ go-on _ _ _ (non-t _ (room-is ∙ non-f _ y)))
 
-          module _ (l : List ActiveLock) (z : l ≡ altered (nest x) (take (q .left) takes) (q .kept)) where
-            adopted : l ≡ inPlaces 64 blankActive (map (adopt (orphan x) x) (p .kept))
-            adopted = z ∙ taken (orphan x) x (q .kept) (q .left) (kept-placed q c) takes e
+          module _ (d : List ActiveLock) (i : d ≡ inPlaces 64 blankActive (insertBy akey x (map (adopt (orphan x) x) (p .kept)))) where
+            next-is : record { revision = s .revision + 1; active = d; actives = q .left + 1; defunct = u .list; defuncts = u .count } ≡ stateOf (leftIn m p x by at)
+            unfolding leftIn
+            next-is = λ o. record {
+              revision = s .revision + 1;
+              active = i o;
+              actives = count o;
+              defunct = k .same (omega (arith, k .count, left-room .1)) o;
+              defuncts = k .count o;
+            }
+              where
+                count : q .left + 1 ≡ length (insertBy akey x (map (adopt (orphan x) x) (p .kept)))
+                count = omega (arith, length-insert akey x (map (adopt (orphan x) x) (p .kept)), length-map (p .kept) (adopt (orphan x) x), kept-count q c)
 
-            front : take (q .left) l ≡ map (adopt (orphan x) x) (p .kept)
-            front = ap (take (q .left)) adopted ∙ ap (λ (k : ℕ). take k (inPlaces 64 blankActive (map (adopt (orphan x) x) (p .kept)))) (sym (length-map (p .kept) (adopt (orphan x) x) ∙ kept-count q c)) ∙ back 64 blankActive (map (adopt (orphan x) x) (p .kept))
-
-            pub adopted-placed : Placed l (q .left)
-            adopted-placed = record { room = omega (arith, c .room); same = ap (inPlaces 64 blankActive) front ∙ sym adopted }
-
-            module _ (d : List ActiveLock) (i : d ≡ inPlaces 64 blankActive (insertBy akey x (take (q .left) l))) (ts : List DefunctLock) (j : ts ≡ inPlaces 128 blankDefunct (entriesOf u)) where
-              next-is : record { revision = s .revision + 1; active = d; actives = q .left + 1; defunct = ts; defuncts = u .count } ≡ stateOf (leftIn m p x by at)
-              unfolding leftIn
-              next-is = λ o. record {
-                revision = s .revision + 1;
-                active = (i ∙ ap (λ (y : List ActiveLock). inPlaces 64 blankActive (insertBy akey x y)) front) o;
-                actives = count o;
-                defunct = (j ∙ ap (λ (y : Table). inPlaces 128 blankDefunct (entriesOf y)) k ∙ ap (inPlaces 128 blankDefunct) (entries-back (enteredOf x by at (p .gone) (m .defunct)))) o;
-                defuncts = ap (λ (y : Table). y .count) k o;
-              }
-                where
-                  count : q .left + 1 ≡ length (insertBy akey x (map (adopt (orphan x) x) (p .kept)))
-                  count = omega (arith, length-insert akey x (map (adopt (orphan x) x) (p .kept)), length-map (p .kept) (adopt (orphan x) x), kept-count q c)
-
-              pub left-done : (n : LockState) (r : Replaced) → n ≡ record { revision = s .revision + 1; active = d; actives = q .left + 1; defunct = ts; defuncts = u .count } → r ≡ replacedBy s (p .gone) n → r ≡ leftOn s p x by at
-              unfolding leftOn closedReplace replacedBy
-              left-done n r o z = z ∙ ap (replacedBy s (p .gone)) (o ∙ next-is) ∙ ap (λ (y : Bool). cond y (replaced Done (p .gone) (stateOf (leftIn m p x by at))) (replaced Invariant [] s)) (lists-test (leftIn m p x by at)) ∙ done-is (judgeLeft m p x by at) s (p .gone) (leftIn m p x by at) done
+            pub left-done : (n : LockState) (r : Replaced) → n ≡ record { revision = s .revision + 1; active = d; actives = q .left + 1; defunct = u .list; defuncts = u .count } → r ≡ replacedBy s (p .gone) n → r ≡ leftOn s p x by at
+            unfolding leftOn closedReplace replacedBy
+            left-done n r o z = z ∙ ap (replacedBy s (p .gone)) (o ∙ next-is) ∙ ap (λ (y : Bool). cond y (replaced Done (p .gone) (stateOf (leftIn m p x by at))) (replaced Invariant [] s)) (lists-test (leftIn m p x by at)) ∙ done-is (judgeLeft m p x by at) s (p .gone) (leftIn m p x by at) done
 
 -- ---- the whole
 module _ (s : LockState) (ws : List ℕ) (y x : ActiveLock) (f : x ≡ normal y) (by at : ℕ) (v : Verdict) (e : v ≡ brokenRule s) where
@@ -216,10 +212,10 @@ module _ (s : LockState) (ws : List ℕ) (y x : ActiveLock) (f : x ≡ normal y)
     unfolding commitReplacementOn commitReplacementWith
     whole = ap (λ (o : ActiveLock). settledReplace full (judgeReplace full (modelOf s) ws o by at) s (cutOf (modelOf s) ws .gone) (replacedIn (modelOf s) ws o by at)) f ∙ on-sound s (λ n. replaced (UnsoundState n) [] s) _ v e g
 
-    pub whole-refused : not b ≡ true → (r : Replaced) → r ≡ replaced a [] s → r ≡ commitReplacementOn s ws y by at
+    pub whole-refused : b ≡ false → (r : Replaced) → r ≡ replaced a [] s → r ≡ commitReplacementOn s ws y by at
     unfolding andThen
     whole-refused t r k =
-        let u : isDone a ≡ false = sym d ∙ not-true b t in
+        let u : isDone a ≡ false = sym d ∙ t in
         let j : judgeReplace full (modelOf s) ws x by at ≡ a = entry-is ∙ cond-false (isDone a) (judgeLeft (modelOf s) (cutOf (modelOf s) ws) x by at) a u in
         k ∙ ap (λ (o : Answer). replaced o [] s) (sym j) ∙ refused-is (judgeReplace full (modelOf s) ws x by at) s (cutOf (modelOf s) ws .gone) (replacedIn (modelOf s) ws x by at) (ap isDone j ∙ u) ∙ whole
 
@@ -235,8 +231,8 @@ module _ (s : LockState) (ws : List ℕ) (y x : ActiveLock) (f : x ≡ normal y)
           let z = facts-of-state s (sym e ∙ g) in
           subst (λ (o : Parts). Yes (ascending dkey (enterAll (map (toDefunct x by at) (o .gone)) (modelOf s .defunct)))) (sym cut-is) (entered-order x by at (modelOf s) ws (z .order) (z .one))
 
-      pub whole-rest : not b ≡ false → (r : Replaced) → r ≡ leftOn s (partsOf q) x by at → r ≡ commitReplacementOn s ws y by at
+      pub whole-rest : b ≡ true → (r : Replaced) → r ≡ leftOn s (partsOf q) x by at → r ≡ commitReplacementOn s ws y by at
       unfolding leftOn andThen replacedIn leftIn
       whole-rest t r z =
-          let j : judgeReplace full (modelOf s) ws x by at ≡ judgeLeft (modelOf s) (cutOf (modelOf s) ws) x by at = entry-is ∙ cond-true (isDone a) (judgeLeft (modelOf s) (cutOf (modelOf s) ws) x by at) a (sym d ∙ not-false b t) in
+          let j : judgeReplace full (modelOf s) ws x by at ≡ judgeLeft (modelOf s) (cutOf (modelOf s) ws) x by at = entry-is ∙ cond-true (isDone a) (judgeLeft (modelOf s) (cutOf (modelOf s) ws) x by at) a (sym d ∙ t) in
           z ∙ ap (λ (o : Parts). leftOn s o x by at) cut-is ∙ ap (λ (o : Answer). settledReplace full o s (cutOf (modelOf s) ws .gone) (replacedIn (modelOf s) ws x by at)) (sym j) ∙ whole

@@ -1,98 +1,73 @@
 -- Defunct entries that are shed: the state that is left, and what `acknowledgeOn` and `expireDefunctOn` are in each case of
 -- their tests.
 -- Assumes nothing.
-use mathlib.Core.Bool.{Bool, true, false, cond, true≢false}
-use mathlib.Core.List.{List, [], _∷_, map}
+use mathlib.Core.Bool.{Bool, true, false, cond}
+use mathlib.Core.List.{List, [], _∷_}
 use mathlib.Core.Path.{_≡_, refl, sym, ap, _∙_}
 use Prim.Native.Nat.{ℕ, _+_, _≤_, _<_}
 use native.Mathlib.Omega.{arith}
-use lib.Dec.{eqb}
-use lib.ListN.{length, length-map}
-use lib.Seq.{length-take-le}
-use Rattle.lists.specs.Lists.{any, filter, ascending}
+use lib.ListN.{length, getD, take, length-map}
+use lib.Seq.{getD-take, length-take-le}
+use borrow.Author.Tests.{eq-eqb, ne-eqb}
+use Rattle.lists.specs.Lists.{any, filter}
 use Rattle.lists.specs.Places.{inPlaces}
 use Rattle.lists.proofs.First.{some-kept, none-kept}
 use Rattle.ids.specs.declared.LockId.{LockId}
 use Rattle.state.specs.declared.DefunctLock.{DefunctLock}
 use Rattle.state.specs.declared.LockState.{LockState}
-use Rattle.state.specs.Locks.{dkey, hasIdD, blankDefunct}
-use Rattle.state.specs.Model.{Model, modelOf, stateOf, Tidy}
+use Rattle.state.specs.Locks.{hasIdD, blankDefunct}
+use Rattle.state.specs.Model.{modelOf, stateOf, Tidy}
 use Rattle.state.proofs.Laws.{active-count, active-in, defunct-count}
 use Rattle.rules.specs.declared.Verdict.the-variants.{Sound}
 use Rattle.rules.specs.Rules.{brokenRule}
 use Rattle.lookups.proofs.Verdicts.{on-sound}
-use Rattle.operations.specs.declared.answers.Acknowledgement.{Acknowledgement}
 use Rattle.operations.specs.declared.answers.Acknowledgement.the-variants as acknowledgement
-use Rattle.operations.specs.declared.answers.DefunctExpiry.{DefunctExpiry}
 use Rattle.operations.specs.declared.answers.DefunctExpiry.the-variants as expiry
 use Rattle.operations.specs.declared.answers.Shed.{Shed}
-use Rattle.operations.specs.declared.answers.Acknowledged.{Acknowledged}
-use Rattle.operations.specs.declared.answers.DefunctsExpired.{DefunctsExpired}
-use Rattle.operations.specs.declared.defuncts.Table.{Table}
 use Rattle.operations.specs.Defuncts.{removeD, removeAll}
-use Rattle.operations.specs.Checks.{atLast}
+use Rattle.operations.specs.Checks.{lastRevision, atLast}
 use Rattle.operations.specs.Acknowledge.{withDefunct, shedIn, acknowledged, toldAcknowledge, acknowledgedTo, acknowledgeOn, lapsed, lapsedOf, idsOfEntries, shed, shedTo, expireDefunctOn}
-use Rattle.operations.specs.Code.{entriesOf, tableOf, Ranked}
-use Rattle.operations.specs.Code.{idsTold, shedBy}
-use Rattle.operations.proofs.Leaving.{remove-le, removeAll-le, entries-back, laid-of}
+use Rattle.operations.specs.Code.{flagged, Ready, withEntries, idsTold}
+use Rattle.operations.proofs.Flags.{flagged-by}
+use Rattle.operations.proofs.Leaving.{splice-all}
 
--- ---- the state with the entries of a table
-module _ (s : LockState) (t : Tidy s) (x : Table) (w : x .count ≤ length (x .entries)) (e : List DefunctLock) (q : e ≡ inPlaces 128 blankDefunct (entriesOf x)) where
-  abbrev with : ℕ → LockState
-  with r = record { revision = r; active = s .active; actives = s .actives; defunct = e; defuncts = x .count }
+-- ---- marks that a test gives
+module _ (s : LockState) (t : Tidy s) (p : DefunctLock → Bool) (goes : List Bool) (w : length goes ≡ 128) (f : (j : ℕ) → j < s .defuncts → getD goes j false ≡ p (getD (s .defunct) j blankDefunct)) where
+  pub marked-by : flagged (take (s .defuncts) goes) (modelOf s .defunct) ≡ filter p (modelOf s .defunct)
+  marked-by = flagged-by p (take (s .defuncts) goes) (modelOf s .defunct) blankDefunct (omega (arith, defunct-count s t, length-take-le (s .defuncts) goes (omega (arith, t .defunct))))
+      (λ j k.
+      let g : j < s .defuncts = omega (arith, defunct-count s t) in
+      rw (getD-take (s .defuncts) goes j false g, getD-take (s .defuncts) (s .defunct) j blankDefunct g) (f j g))
 
-  with-is : (r : ℕ) → with r ≡ stateOf (withDefunct (modelOf s) r (entriesOf x))
-  with-is r = λ j. record { revision = r; active = places j; actives = count j; defunct = q j; defuncts = number j }
+-- ---- the state without them, x, and its number
+module _ (s : LockState) (t : Tidy s) (l : List DefunctLock) (x : LockState) (q : x ≡ withEntries s l) where
+  same : x .revision ≡ s .revision
+  same = ap (λ (y : LockState). y .revision) q
+
+  left : (n : ℕ) → record { revision = n; active = x .active; actives = x .actives; defunct = x .defunct; defuncts = x .defuncts } ≡ stateOf (withDefunct (modelOf s) n l)
+  left n =
+      ap (λ (y : LockState). record { revision = n; active = y .active; actives = y .actives; defunct = y .defunct; defuncts = y .defuncts }) q
+      ∙ (λ j. record { revision = n; active = places j; actives = number j; defunct = inPlaces 128 blankDefunct l; defuncts = length l })
     where
       places : s .active ≡ stateOf (modelOf s) .active
       places = sym (active-in s t)
 
-      count : s .actives ≡ length (modelOf s .active)
-      count = sym (active-count s t)
+      number : s .actives ≡ length (modelOf s .active)
+      number = sym (active-count s t)
 
-      number : x .count ≡ length (entriesOf x)
-      number = sym (length-take-le (x .count) (x .entries) w)
+  pub at-last : x .revision ≡ lastRevision → s .revision ≡ lastRevision
+  at-last h = sym same ∙ h
 
-  pub with-last : eqb (s .revision) 18446744073709551615 ≡ true → with (s .revision) ≡ stateOf (shedIn (modelOf s) (entriesOf x))
+  pub left-last : x .revision ≡ lastRevision → x ≡ stateOf (shedIn (modelOf s) l)
   unfolding shedIn atLast
-  with-last h = rw h (with-is (s .revision))
+  left-last h = rw (eq-eqb (s .revision) lastRevision (at-last h)) (left (x .revision) ∙ ap (λ (n : ℕ). stateOf (withDefunct (modelOf s) n l)) same)
 
-  pub with-next : eqb (s .revision) 18446744073709551615 ≡ false → with (s .revision + 1) ≡ stateOf (shedIn (modelOf s) (entriesOf x))
+  pub before-last : (x .revision ≡ lastRevision → ⊥) → s .revision ≡ lastRevision → ⊥
+  before-last h g = h (same ∙ g)
+
+  pub left-next : (x .revision ≡ lastRevision → ⊥) → record { revision = x .revision + 1; active = x .active; actives = x .actives; defunct = x .defunct; defuncts = x .defuncts } ≡ stateOf (shedIn (modelOf s) l)
   unfolding shedIn atLast
-  with-next h = rw h (with-is (s .revision + 1))
-
--- ---- the table of the state's entries, and what is left of it
-module _ (s : LockState) (t : Tidy s) (whole : Table) (p : whole ≡ tableOf (modelOf s .defunct)) where
-  pub ranked : ascending dkey (modelOf s .defunct) ≡ true → Ranked whole
-  ranked o = rw p (record { laid = laid-of (modelOf s .defunct) (omega (arith, t .defunct, defunct-count s t)); order = rw (entries-back (modelOf s .defunct)) o })
-
-  module _ (f : List DefunctLock → List DefunctLock) (le : (l : List DefunctLock) → length (f l) ≤ length l) (x : Table) (q : x ≡ tableOf (f (entriesOf whole))) where
-    left : x ≡ tableOf (f (modelOf s .defunct))
-    left = q ∙ ap (λ (y : Table). tableOf (f (entriesOf y))) p ∙ ap (λ (l : List DefunctLock). tableOf (f l)) (entries-back (modelOf s .defunct))
-
-    pub left-entries : entriesOf x ≡ f (modelOf s .defunct)
-    left-entries = ap entriesOf left ∙ entries-back (f (modelOf s .defunct))
-
-    pub left-room : x .count ≤ 128
-    left-room = omega (arith, ap (λ (y : Table). y .count) left, le (modelOf s .defunct), t .defunct, defunct-count s t)
-
--- ---- what is told of the next state n
-module _ (s n : LockState) where
-  pub told-last : eqb (s .revision) 18446744073709551615 ≡ true → acknowledged acknowledgement.RevisionOverflow n ≡ acknowledgedTo s n
-  unfolding acknowledgedTo toldAcknowledge atLast
-  told-last h = rw h
-
-  pub shed-last : (x : Shed) → eqb (s .revision) 18446744073709551615 ≡ true → shed expiry.RevisionOverflow [] n ≡ shedBy s x n
-  unfolding shedBy atLast
-  shed-last x h = rw h
-
-  pub told-done : eqb (s .revision) 18446744073709551615 ≡ false → acknowledged acknowledgement.Done n ≡ acknowledgedTo s n
-  unfolding acknowledgedTo toldAcknowledge atLast
-  told-done h = rw h
-
-  pub shed-done : (x : Shed) → eqb (s .revision) 18446744073709551615 ≡ false → record { told = x; state = n } ≡ shedBy s x n
-  unfolding shedBy atLast
-  shed-done x h = rw h
+  left-next h = rw (ne-eqb (s .revision) lastRevision (before-last h)) (left (x .revision + 1) ∙ ap (λ (n : ℕ). stateOf (withDefunct (modelOf s) (n + 1) l)) same)
 
 -- ---- by the tests of a sound state
 module _ (s : LockState) (w : brokenRule s ≡ Sound) where
@@ -101,20 +76,46 @@ module _ (s : LockState) (w : brokenRule s ≡ Sound) where
     unfolding acknowledgeOn
     absent f = ap (λ (c : Bool). cond c (acknowledgedTo s (stateOf (shedIn (modelOf s) (removeD i (modelOf s .defunct))))) (acknowledged acknowledgement.Absent s)) (sym f ∙ e) ∙ on-sound s _ _ (brokenRule s) refl w
 
-    pub there : b ≡ true → (l : List DefunctLock) → l ≡ removeD i (modelOf s .defunct) → (n : LockState) → n ≡ stateOf (shedIn (modelOf s) l) → acknowledgedTo s n ≡ acknowledgeOn s i
-    unfolding acknowledgeOn
-    there f l g n h = ap (λ (c : Bool). cond c (acknowledgedTo s n) (acknowledged acknowledgement.Absent s)) (sym f ∙ e) ∙ rw (h, g) (on-sound s _ _ (brokenRule s) refl w)
+    -- n is the state that is left
+    module _ (f : b ≡ true) (r : Ready s) (n : LockState) (h : n ≡ stateOf (shedIn (modelOf s) (removeAll (filter (hasIdD i) (modelOf s .defunct)) (modelOf s .defunct)))) where
+      there : acknowledgedTo s n ≡ acknowledgeOn s i
+      unfolding acknowledgeOn
+      there = ap (λ (c : Bool). cond c (acknowledgedTo s n) (acknowledged acknowledgement.Absent s)) (sym f ∙ e) ∙ rw (h, splice-all i (modelOf s .defunct) (r .order)) (on-sound s _ _ (brokenRule s) refl w)
 
+      pub there-last : s .revision ≡ lastRevision → acknowledged acknowledgement.RevisionOverflow n ≡ acknowledgeOn s i
+      unfolding acknowledgedTo toldAcknowledge atLast
+      there-last g = rw (eq-eqb (s .revision) lastRevision g) at there
+
+      pub there-next : (s .revision ≡ lastRevision → ⊥) → acknowledged acknowledgement.Done n ≡ acknowledgeOn s i
+      unfolding acknowledgedTo toldAcknowledge atLast
+      there-next g = rw (ne-eqb (s .revision) lastRevision g) at there
+
+  -- x is what is told of the ids
   module _ (now : ℕ) (x : Shed) (e : x ≡ idsTold (idsOfEntries (lapsedOf now (modelOf s)))) where
     count : x .gone ≡ length (lapsedOf now (modelOf s))
     count = ap (λ (y : Shed). y .gone) e ∙ length-map (lapsedOf now (modelOf s)) (λ d. d .lock .id)
 
-    pub none-lapsed : x .gone ≡ 0 → shed expiry.Done [] s ≡ expireDefunctOn s now
+    pub none-lapsed : x .gone ≤ 0 → record { told = x; state = s } ≡ expireDefunctOn s now
     unfolding expireDefunctOn
-    none-lapsed f = let g : any (lapsed now) (modelOf s .defunct) ≡ false = none-kept (lapsed now) (modelOf s .defunct) (sym count ∙ f) in rw (← on-sound s _ _ (brokenRule s) refl w, g)
+    none-lapsed f =
+        let g : any (lapsed now) (modelOf s .defunct) ≡ false = none-kept (lapsed now) (modelOf s .defunct) (omega (arith, count)) in
+        rw (← on-sound s _ _ (brokenRule s) refl w, g, e) (ap (λ (l : List LockId). shed expiry.Done l s) (no-ids (lapsedOf now (modelOf s)) (omega (arith, count))))
+      where
+        no-ids : (l : List DefunctLock) → length l ≡ 0 → idsOfEntries l ≡ []
+        no-ids [] z = refl
+        no-ids (d ∷ ds) z = absurd (omega arith)
 
-    pub some-lapsed : (x .gone ≡ 0 → ⊥) → (l : List DefunctLock) → l ≡ removeAll (lapsedOf now (modelOf s)) (modelOf s .defunct) → (n : LockState) → n ≡ stateOf (shedIn (modelOf s) l) → shedBy s x n ≡ expireDefunctOn s now
-    unfolding expireDefunctOn shedBy shedTo
-    some-lapsed f l g n h =
-        let k : any (lapsed now) (modelOf s .defunct) ≡ true = some-kept (lapsed now) (modelOf s .defunct) (λ z. f (count ∙ z)) in
-        rw (← on-sound s _ _ (brokenRule s) refl w, k, e, h, g)
+    module _ (f : 0 < x .gone) (n : LockState) (h : n ≡ stateOf (shedIn (modelOf s) (removeAll (lapsedOf now (modelOf s)) (modelOf s .defunct)))) where
+      some-lapsed : shedTo s (idsOfEntries (lapsedOf now (modelOf s))) n ≡ expireDefunctOn s now
+      unfolding expireDefunctOn
+      some-lapsed =
+          let k : any (lapsed now) (modelOf s .defunct) ≡ true = some-kept (lapsed now) (modelOf s .defunct) (λ z. omega (arith, count)) in
+          rw (← on-sound s _ _ (brokenRule s) refl w, k, h)
+
+      pub lapsed-last : s .revision ≡ lastRevision → shed expiry.RevisionOverflow [] n ≡ expireDefunctOn s now
+      unfolding shedTo atLast
+      lapsed-last g = rw (eq-eqb (s .revision) lastRevision g) at some-lapsed
+
+      pub lapsed-next : (s .revision ≡ lastRevision → ⊥) → record { told = x; state = n } ≡ expireDefunctOn s now
+      unfolding shedTo atLast
+      lapsed-next g = rw e (rw (ne-eqb (s .revision) lastRevision g) at some-lapsed)

@@ -7,7 +7,7 @@ use mathlib.Core.List.{List, [], _∷_, _++_, map}
 use mathlib.Core.Option.{Option, none, some}
 use mathlib.Core.Path.{_≡_}
 use Prim.Native.Nat.{ℕ, zero, suc, _+_, _≤_, _<_}
-use lib.Dec.{eqb, ltb, leb}
+use lib.Dec.{eqb, ltb}
 use lib.ListN.{length, getD, take}
 use Rattle.lists.specs.Tests.{_or_, non, Yes}
 use Rattle.lists.specs.Lists.{any, filter, Mem, ascending, insertBy}
@@ -21,27 +21,26 @@ use Rattle.state.specs.declared.DefunctLock.{DefunctLock}
 use Rattle.state.specs.declared.LockState.{LockState}
 use Rattle.state.specs.Locks.{isVehicle, hasId, akey, dkey, blankActive, blankDefunct}
 use Rattle.state.specs.Model.{Model, modelOf, Limits, full, Tidy}
-use Rattle.rules.specs.Rules.{brokenRule, isSound}
-use Rattle.lookups.specs.Reads.{narrow}
+use Rattle.rules.specs.Rules.{findD, rule9, brokenRule, isSound}
+use Rattle.rules.specs.Code.{Entries}
+use Rattle.lookups.specs.Reads.{narrow, onScope}
 use Rattle.operations.specs.declared.answers.Answer.{Answer}
 use Rattle.operations.specs.declared.answers.Answer.the-variants.{Done, ParentNotFound, ParentNotVehicle, OtherOwner, NotCovered, Invariant}
-use Rattle.operations.specs.declared.answers.Inserted.{Inserted}
 use Rattle.operations.specs.declared.answers.Replaced.{Replaced}
+use Rattle.operations.specs.declared.checks.Seen.{Seen}
 use Rattle.operations.specs.declared.trees.Places.{Places}
 use Rattle.operations.specs.declared.trees.Split.{Split}
 use Rattle.operations.specs.declared.defuncts.Table.{Table}
-use Rattle.operations.specs.Trees.{childOf, Parts}
+use Rattle.operations.specs.declared.entering.Ledger.{Ledger}
+use Rattle.operations.specs.Trees.{childOf, isListed, Parts}
 use Rattle.operations.specs.Answers.{refuseIf, andThen, firstRefusal}
-use Rattle.operations.specs.Defuncts.{redirect, removeAll}
-use Rattle.operations.specs.Checks.{parentOf, checkId, checkScope, checkClear, atLast, checkRevision, checkRoom, checkActive, checkListed, checkChild, checkHolder}
-use Rattle.operations.specs.Insert.{insertedIn, inserted}
+use Rattle.operations.specs.Defuncts.{redirect}
+use Rattle.operations.specs.Checks.{parentOf, checkId, checkScope, checkClear, checkRevision, checkRoom, checkActive, checkListed, checkChild, checkHolder, conflicts}
+use Rattle.operations.specs.Insert.{insertedIn}
 use Rattle.operations.specs.Vehicle.{adopt}
 use Rattle.operations.specs.Replace.{orphan, enteredOf, replaced, settledReplace}
-use Rattle.operations.specs.declared.answers.DefunctExpiry.{DefunctExpiry}
 use Rattle.operations.specs.declared.answers.DefunctExpiry.the-variants as expiry
 use Rattle.operations.specs.declared.answers.Shed.{Shed}
-use Rattle.operations.specs.declared.answers.DefunctsExpired.{DefunctsExpired}
-use Rattle.operations.specs.Acknowledge.{lapsed, shed}
 
 module _ {A : Type 0} where
   -- what is marked, and what is left; what stands past the marks is left
@@ -74,6 +73,7 @@ pub record Placed (l : List ActiveLock) (n : ℕ) : Type 0 where
 pub record Ready (s : LockState) : Type 0 where
   pub tidy : Tidy s
   pub order : Yes (ascending dkey (modelOf s .defunct))
+  pub free : rule9 (modelOf s) ≡ true
 
 -- ---- trees
 -- the three steps of a tree's removal by their numbers
@@ -208,9 +208,6 @@ unfoldable pub checkNamed : Bool → List ActiveLock → LockId → Answer
 checkNamed child l i = cond child (checkListed l i) (checkActive l i)
 
 -- ---- the closing check, as the code makes it: of the next state
-unfoldable pub insertedBy : LockState → LockState → Inserted
-insertedBy s n = cond (isSound (brokenRule n)) (inserted Done n) (inserted Invariant s)
-
 unfoldable pub replacedBy : LockState → List ActiveLock → LockState → Replaced
 replacedBy s g n = cond (isSound (brokenRule n)) (replaced Done g n) (replaced Invariant [] s)
 
@@ -238,12 +235,64 @@ leftOn s p x by at = settledReplace full (judgeLeft (modelOf s) p x by at) s (p 
 abbrev pub placeIn : LockId → List ActiveLock → ℕ
 placeIn i l = leading (λ a. non (hasId i a)) l 0
 
--- expire_defunct: the list of ids that is told, the table without the entries, and what is told of the next state n
+-- expire_defunct: the list of ids that is told
 abbrev pub idsTold : List LockId → Shed
 idsTold l = record { answer = expiry.Done; gone = length l; ids = inPlaces 128 noId l }
 
-abbrev pub expiredTable : ℕ → Table → Table
-expiredTable now t = tableOf (removeAll (filter (lapsed now) (entriesOf t)) (entriesOf t))
+-- ---- defunct entries that go in a single pass: each that stays follows the targets of those that go
+-- what stands at a place of a list; none past its end
+abbrev pub entryAt : List DefunctLock → ℕ → Option DefunctLock
+entryAt gone i = cond (ltb i (length gone)) (some (getD gone i blankDefunct)) none
 
-unfoldable pub shedBy : LockState → Shed → LockState → DefunctsExpired
-shedBy s x n = cond (atLast (s .revision)) (shed expiry.RevisionOverflow [] n) (record { told = x; state = n })
+-- the last entry that is met in at most n turns, from the one that is found
+unfoldable pub lastFrom : ℕ → List DefunctLock → Option DefunctLock → Option DefunctLock → Option DefunctLock
+lastFrom zero gone found last = last
+lastFrom (suc n) gone none last = last
+lastFrom (suc n) gone (some e) last = lastFrom n gone (findD gone (key (e .target))) (some e)
+
+abbrev pub handedOn : Option DefunctLock → DefunctLock → DefunctLock
+handedOn none d = d
+handedOn (some e) d = tookOver e d
+
+-- what is left of an entry where those of the list go
+unfoldable pub landed : List DefunctLock → DefunctLock → DefunctLock
+landed gone d = handedOn (lastFrom (length gone) gone (findD gone (key (d .target))) none) d
+
+-- columns of the entries that go
+pub record Rows (gone : List DefunctLock) (n : ℕ) (ids targets holders : List ℕ) : Type 0 where
+  pub entries : Entries gone n ids targets
+  pub at-holder : (i : ℕ) → i < n → getD holders i 0 ≡ getD gone i blankDefunct .holder
+
+-- the state with other defunct entries
+abbrev pub withEntries : LockState → List DefunctLock → LockState
+withEntries s l = record { revision = s .revision; active = s .active; actives = s .actives; defunct = inPlaces 128 blankDefunct l; defuncts = length l }
+
+-- ---- what one walk over the active locks sees of a new one: whether its id is there and its scope is held; the places of its
+-- parent and of the first lock that it conflicts with, the count where there is none
+abbrev pub seenIn : ActiveLock → List ActiveLock → Seen
+seenIn x l =
+    record {
+      same = any (hasId (x .lock .id)) l;
+      held = any (onScope (x .lock .scope)) l;
+      parent = placeIn (x .parent) l;
+      clash = leading (λ a. non (conflicts x a)) l 0;
+    }
+
+-- ---- locks that are entered as defunct (src/entering.rt): their number, and the entries where they fit
+pub record Listed (r : Ledger) (l : List DefunctLock) : Type 0 where
+  pub count : r .count ≡ length l
+  pub same : length l ≤ 128 → r .list ≡ inPlaces 128 blankDefunct l
+
+-- ---- the steps of a tree's removal by their marks (src/trees.rt)
+abbrev pub marked : List Bool → ℕ → Bool
+marked marks j = getD marks j false
+
+abbrev pub markedTree : List Bool → List Bool → List Bool → Halves → Halves
+markedTree children narrow root h = takeHalves (marked root) (takeHalves (marked narrow) (takeHalves (marked children) h))
+
+unfoldable pub markedRoot : List Bool → List Bool → List Bool → Halves → Halves
+markedRoot children narrow root h = cond (any (marked root) (h .kept)) (markedTree children narrow root h) h
+
+-- after the roots whose id is listed
+abbrev pub rootsHalves : List ℕ → List ActiveLock → ℕ → Halves
+rootsHalves ids l n = cutHalves l (filter (isListed ids) (take n l)) (startHalves n)

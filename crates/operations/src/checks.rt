@@ -8,8 +8,9 @@ use ids::LockId;
 use state::ActiveLock;
 use state::DefunctLock;
 use state::LockState;
+ghost use mathlib.Core.Bool.{cond};
 ghost use mathlib.Core.Path.{_≡_};
-ghost use Prim.Native.Nat.{ℕ, _≤_};
+ghost use Prim.Native.Nat.{_≤_};
 ghost use lib.Dec.{eqb};
 ghost use lib.ListN.{take};
 ghost use Rattle.lists.specs.Lists.{any};
@@ -18,8 +19,8 @@ ghost use Rattle.state.specs.Locks.{hasId, hasIdD};
 ghost use Rattle.operations.specs.declared.answers.Answer.the-variants.{Done, NoRoom};
 ghost use Rattle.operations.specs.Answers.{refuseIf, firstRefusal};
 ghost use Rattle.operations.specs.Trees.{inTrees};
-ghost use Rattle.operations.specs.Checks.{checkList, checkId, checkScope, conflicts, checkClear, checkRevision, checkRoot, settledLock, checkActive, checkListed, checkChild, outside, checkHolder};
-ghost use Rattle.operations.specs.Code.{flagged, checkParent, checkNesting, checkInsert, checkNamed};
+ghost use Rattle.operations.specs.Checks.{checkList, checkId, conflicts, checkRevision, checkRoot, settledLock, checkActive, checkListed, checkChild, outside, checkHolder};
+ghost use Rattle.operations.specs.Code.{flagged, placeIn, checkParent, checkNesting, checkInsert, checkNamed, seenIn};
 
 // ---- 14
 pub(crate) fn check_list(list: &[u64]) -> Answer
@@ -79,28 +80,6 @@ pub(crate) fn check_id(
     Answer::Done
 }
 
-// ---- 2
-pub(crate) fn check_scope(
-    locks: [ActiveLock; LockState::ACTIVE],
-    n: usize,
-    new: ActiveLock,
-) -> Answer
-    requires { ⌜ n ≤ 64 ⌝ }
-    ensures { λ r. ⌜ r ≡ checkScope (take n locks) new ⌝ }
-{
-    let lock = new.lock;
-    let scope = lock.scope;
-    let mut i: usize = 0;
-    while i < n {
-        let a = locks[i];
-        i += 1;
-        if lookups::on_scope(scope, a) {
-            return Answer::DuplicateScope;
-        }
-    }
-    Answer::Done
-}
-
 // ---- 5, 11.3, 11.4
 fn check_parent(new: ActiveLock, parent: ActiveLock) -> Answer
     ensures { λ r. ⌜ r ≡ checkParent new parent ⌝ }
@@ -121,24 +100,25 @@ fn check_parent(new: ActiveLock, parent: ActiveLock) -> Answer
     Answer::Done
 }
 
-// ---- 4, and then
-fn check_nesting(locks: [ActiveLock; LockState::ACTIVE], n: usize, new: ActiveLock) -> Answer
-    requires { ⌜ n ≤ 64 ⌝ }
+// ---- 4, and then: the parent's place is known
+fn check_nesting(
+    locks: [ActiveLock; LockState::ACTIVE],
+    n: usize,
+    at: usize,
+    new: ActiveLock,
+) -> Answer
+    requires { ⌜ (n ≤ 64) × (at ≡ placeIn (new .parent) (take n locks)) ⌝ }
     ensures { λ r. ⌜ r ≡ checkNesting (take n locks) new ⌝ }
 {
     if !new.child {
         return Answer::Done;
     }
-    let up = new.parent;
-    let mut i: usize = 0;
-    while i < n {
-        let p = locks[i];
-        i += 1;
-        if state::has_id(up, p) {
-            return check_parent(new, p);
-        }
+    if n <= at {
+        let up = new.parent;
+        return Answer::ParentNotFound(up);
     }
-    Answer::ParentNotFound(up)
+    let p = locks[at];
+    check_parent(new, p)
 }
 
 // ---- 7
@@ -152,23 +132,81 @@ fn in_conflict(new: ActiveLock, a: ActiveLock) -> bool
         & !state::is_vehicle(scope)
 }
 
-fn check_clear(locks: [ActiveLock; LockState::ACTIVE], n: usize, new: ActiveLock) -> Answer
-    requires { ⌜ n ≤ 64 ⌝ }
-    ensures { λ r. ⌜ r ≡ checkClear (take n locks) new ⌝ }
+// ---- one walk over the active locks, and what it sees of a new one
+// Whether its id is there and its scope is held; the places of its parent and of the first lock that it conflicts with, the
+// count where there is none.
+pub(crate) struct Seen {
+    pub same: bool,
+    pub held: bool,
+    pub parent: usize,
+    pub clash: usize,
+}
+
+fn nearer(here: bool, i: usize, later: usize) -> usize
+    ensures { λ r. ⌜ r ≡ cond here i later ⌝ }
 {
-    let mut i: usize = 0;
-    while i < n {
-        let a = locks[i];
-        i += 1;
-        if in_conflict(new, a) {
-            let id = a.lock.id;
-            return Answer::CoverageConflict(id);
-        }
+    if here {
+        return i;
     }
-    Answer::Done
+    later
+}
+
+// From the last lock to the first, so that the first place is the one that stays.
+pub(crate) fn look(locks: [ActiveLock; LockState::ACTIVE], n: usize, new: ActiveLock) -> Seen
+    requires { ⌜ n ≤ 64 ⌝ }
+    ensures { λ r. ⌜ r ≡ seenIn new (take n locks) ⌝ }
+{
+    let up = new.parent;
+    let lock = new.lock;
+    let scope = lock.scope;
+    let id = lock.id;
+    let mut same = false;
+    let mut held = false;
+    let mut parent = n;
+    let mut clash = n;
+    let mut i = n;
+    while 0 < i {
+        i -= 1;
+        let a = locks[i];
+        same = state::has_id(id, a) | same;
+        held = lookups::on_scope(scope, a) | held;
+        parent = nearer(state::has_id(up, a), i, parent);
+        clash = nearer(in_conflict(new, a), i, clash);
+    }
+    Seen {
+        same,
+        held,
+        parent,
+        clash,
+    }
 }
 
 // ---- 2, 4, 5, 11.3, 11.4, 7
+pub(crate) fn check_seen(
+    locks: [ActiveLock; LockState::ACTIVE],
+    n: usize,
+    seen: Seen,
+    new: ActiveLock,
+) -> Answer
+    requires { ⌜ (n ≤ 64) × (seen ≡ seenIn new (take n locks)) ⌝ }
+    ensures { λ r. ⌜ r ≡ checkInsert (take n locks) new ⌝ }
+{
+    if seen.held {
+        return Answer::DuplicateScope;
+    }
+    let a = check_nesting(locks, n, seen.parent, new);
+    if !answers::is_done(a) {
+        return a;
+    }
+    let at = seen.clash;
+    if n <= at {
+        return Answer::Done;
+    }
+    let other = locks[at];
+    let id = other.lock.id;
+    Answer::CoverageConflict(id)
+}
+
 pub(crate) fn check_insert(
     locks: [ActiveLock; LockState::ACTIVE],
     n: usize,
@@ -177,15 +215,8 @@ pub(crate) fn check_insert(
     requires { ⌜ n ≤ 64 ⌝ }
     ensures { λ r. ⌜ r ≡ checkInsert (take n locks) new ⌝ }
 {
-    let a = check_scope(locks, n, new);
-    if !answers::is_done(a) {
-        return a;
-    }
-    let b = check_nesting(locks, n, new);
-    if !answers::is_done(b) {
-        return b;
-    }
-    check_clear(locks, n, new)
+    let w = look(locks, n, new);
+    check_seen(locks, n, w, new)
 }
 
 // ---- 8
@@ -306,7 +337,7 @@ pub(crate) fn check_ids(
 }
 
 // ---- 11.3, 11.4 of one lock that the new vehicle lock takes in
-fn check_child(new: ActiveLock, child: ActiveLock) -> Answer
+pub(crate) fn check_child(new: ActiveLock, child: ActiveLock) -> Answer
     ensures { λ r. ⌜ r ≡ checkChild new child ⌝ }
 {
     let id = child.lock.id;

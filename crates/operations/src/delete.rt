@@ -10,130 +10,95 @@ use crate::renew;
 use crate::trees;
 use ids::LockId;
 use rules::Verdict;
-use state::ActiveLock;
 use state::LockState;
 ghost use mathlib.Core.Path.{_≡_};
-ghost use mathlib.Core.List.{[]};
-ghost use mathlib.Core.Option.{some};
-ghost use Rattle.state.specs.Model.{Tidy};
-ghost use Rattle.operations.specs.Delete.{deleted, deleteFound, deleteOn, expired, asExpiration, asExpired, beginExpirationOn};
-
-fn kept(a: Deletion, s: LockState) -> Deleted
-    ensures { λ r. ⌜ r ≡ deleted a [] s ⌝ }
-{
-    let b = state::blank_active();
-    Deleted {
-        told: Removal {
-            answer: a,
-            gone: 0,
-            removed: [b; LockState::ACTIVE],
-        },
-        state: s,
-    }
-}
-
-// The tree of r goes.
-fn remove(s: LockState, r: ActiveLock) -> Deleted
-    requires { ⌜ Tidy s ⌝ }
-    ensures { λ x. ⌜ x ≡ deleteFound s (r .lock .id) (some r) ⌝ }
-{
-    if s.revision == u64::MAX {
-        return kept(Deletion::RevisionOverflow, s);
-    }
-    let locks = s.active;
-    let cut = trees::tree_out(locks, s.actives, r);
-    let left = cut.kept;
-    let mut next = s;
-    next.revision = s.revision + 1;
-    next.active = left;
-    next.actives = cut.left;
-    let removed = cut.removed;
-    Deleted {
-        told: Removal {
-            answer: Deletion::Done,
-            gone: cut.gone,
-            removed,
-        },
-        state: next,
-    }
-}
+ghost use Rattle.operations.specs.Delete.{deleteOn, beginExpirationOn};
 
 // The lock goes, with its children and what a group covers; they are listed.
-pub fn delete(s: LockState, id: LockId) -> Deleted
+pub fn delete(mut s: LockState, id: LockId) -> Deleted
     ensures { λ r. ⌜ r ≡ deleteOn s id ⌝ }
 {
-    let v = rules::broken(s);
-    if let Verdict::Broken(n) = v {
-        return kept(Deletion::UnsoundState(n), s);
-    }
-    let i = renew::place_of(s, id);
-    if s.actives <= i {
-        return kept(Deletion::ActiveLockNotFound(id), s);
-    }
-    let r = s.active[i];
-    remove(s, r)
-}
-
-fn stays(a: Expiration, s: LockState) -> Expired
-    ensures { λ r. ⌜ r ≡ expired a [] s ⌝ }
-{
     let b = state::blank_active();
-    Expired {
-        told: Lapse {
-            answer: a,
-            gone: 0,
-            removed: [b; LockState::ACTIVE],
+    let mut removed = [b; LockState::ACTIVE];
+    let mut gone: usize = 0;
+    let mut answer = Deletion::Done;
+    let v = rules::broken(s);
+    match v {
+        Verdict::Broken(n) => {
+            answer = Deletion::UnsoundState(n);
+        }
+        Verdict::Sound => {
+            let locks = s.active;
+            let i = renew::place_of(locks, s.actives, id);
+            if s.actives <= i {
+                answer = Deletion::ActiveLockNotFound(id);
+            } else if s.revision == u64::MAX {
+                answer = Deletion::RevisionOverflow;
+            } else {
+                let r = locks[i];
+                let cut = trees::tree_out(locks, s.actives, r);
+                let left = cut.kept;
+                s.active = left;
+                s.actives = cut.left;
+                s.revision = s.revision + 1;
+                removed = cut.removed;
+                gone = cut.gone;
+            }
+        }
+    }
+    Deleted {
+        told: Removal {
+            answer,
+            gone,
+            removed,
         },
         state: s,
     }
 }
 
-fn as_expiration(a: Deletion) -> Expiration
-    ensures { λ r. ⌜ r ≡ asExpiration a ⌝ }
+// A lock whose expires_at has come goes as by a deletion. Its lines are written out here once more: a function that both
+// call would take the state by value, one copy more.
+pub fn begin_expiration(mut s: LockState, id: LockId, now: u64) -> Expired
+    ensures { λ r. ⌜ r ≡ beginExpirationOn s id now ⌝ }
 {
-    match a {
-        Deletion::Done => Expiration::Done,
-        Deletion::ActiveLockNotFound(_) => Expiration::Stale,
-        Deletion::RevisionOverflow => Expiration::RevisionOverflow,
-        Deletion::UnsoundState(n) => Expiration::UnsoundState(n),
+    let b = state::blank_active();
+    let mut removed = [b; LockState::ACTIVE];
+    let mut gone: usize = 0;
+    let mut answer = Expiration::Done;
+    let v = rules::broken(s);
+    match v {
+        Verdict::Broken(n) => {
+            answer = Expiration::UnsoundState(n);
+        }
+        Verdict::Sound => {
+            let locks = s.active;
+            let i = renew::place_of(locks, s.actives, id);
+            if s.actives <= i {
+                answer = Expiration::Stale;
+            } else {
+                let r = locks[i];
+                if now < r.expires {
+                    answer = Expiration::NotDue(r.expires);
+                } else if s.revision == u64::MAX {
+                    answer = Expiration::RevisionOverflow;
+                } else {
+                    let cut = trees::tree_out(locks, s.actives, r);
+                    let left = cut.kept;
+                    s.active = left;
+                    s.actives = cut.left;
+                    s.revision = s.revision + 1;
+                    removed = cut.removed;
+                    gone = cut.gone;
+                }
+            }
+        }
     }
-}
-
-// What a deletion answers, as an expiration answers it.
-fn as_expired(d: Deleted) -> Expired
-    ensures { λ r. ⌜ r ≡ asExpired d ⌝ }
-{
-    let told = d.told;
-    let a = told.answer;
-    let answer = as_expiration(a);
-    let removed = told.removed;
-    let state = d.state;
     Expired {
         told: Lapse {
             answer,
-            gone: told.gone,
+            gone,
             removed,
         },
-        state,
+        state: s,
     }
-}
-
-// A lock whose expires_at has come goes as by a deletion.
-pub fn begin_expiration(s: LockState, id: LockId, now: u64) -> Expired
-    ensures { λ r. ⌜ r ≡ beginExpirationOn s id now ⌝ }
-{
-    let v = rules::broken(s);
-    if let Verdict::Broken(n) = v {
-        return stays(Expiration::UnsoundState(n), s);
-    }
-    let i = renew::place_of(s, id);
-    if s.actives <= i {
-        return stays(Expiration::Stale, s);
-    }
-    let r = s.active[i];
-    if now < r.expires {
-        return stays(Expiration::NotDue(r.expires), s);
-    }
-    let d = remove(s, r);
-    as_expired(d)
 }

@@ -12,13 +12,11 @@ use state::LockState;
 ghost use mathlib.Core.Path.{_≡_};
 ghost use Prim.Native.Nat.{_≤_, _<_};
 ghost use lib.ListN.{take};
-ghost use Rattle.lists.specs.Lists.{insertBy};
-ghost use Rattle.lists.specs.Places.{inPlaces, opened};
-ghost use Rattle.state.specs.Locks.{akey, blankActive};
+ghost use Rattle.state.specs.Locks.{akey};
 ghost use Rattle.state.specs.Model.{modelOf, stateOf, full, Tidy};
 ghost use Rattle.operations.specs.Checks.{lastRevision};
 ghost use Rattle.operations.specs.Insert.{insertedIn, insertActiveOn};
-ghost use Rattle.operations.specs.Code.{Placed, Ready, placeOf, judgeBundled, insertedBy};
+ghost use Rattle.operations.specs.Code.{Ready, placeOf, judgeBundled};
 
 // ---- a lock put in order
 fn place_of(locks: [ActiveLock; LockState::ACTIVE], n: usize, id: LockId) -> usize
@@ -36,37 +34,6 @@ fn place_of(locks: [ActiveLock; LockState::ACTIVE], n: usize, id: LockId) -> usi
     n
 }
 
-fn open_at(
-    mut l: [ActiveLock; LockState::ACTIVE],
-    n: usize,
-    k: usize,
-    x: ActiveLock,
-) -> [ActiveLock; LockState::ACTIVE]
-    requires { ⌜ (k ≤ n) × (n < 64) ⌝ }
-    ensures { λ r. ⌜ r ≡ opened l k n x ⌝ }
-{
-    let mut j = n;
-    while k < j {
-        let y = l[j - 1];
-        l[j] = y;
-        j -= 1;
-    }
-    l[k] = x;
-    l
-}
-
-pub(crate) fn put_in(
-    locks: [ActiveLock; LockState::ACTIVE],
-    n: usize,
-    new: ActiveLock,
-) -> [ActiveLock; LockState::ACTIVE]
-    requires { ⌜ Placed locks n × (n < 64) ⌝ }
-    ensures { λ r. ⌜ r ≡ inPlaces 64 blankActive (insertBy akey new (take n locks)) ⌝ }
-{
-    let at = place_of(locks, n, new.lock.id);
-    open_at(locks, n, at, new)
-}
-
 // ---- the checks, and whether there is room for one lock more
 fn judged(s: LockState, new: ActiveLock) -> Answer
     requires { ⌜ Tidy s ⌝ }
@@ -75,11 +42,12 @@ fn judged(s: LockState, new: ActiveLock) -> Answer
     let locks = s.active;
     let n = s.actives;
     let entries = s.defunct;
-    let a = checks::check_id(locks, n, entries, s.defuncts, new);
-    if !answers::is_done(a) {
-        return a;
+    let id = new.lock.id;
+    let w = checks::look(locks, n, new);
+    if w.same | checks::id_defunct(entries, s.defuncts, id) {
+        return Answer::DuplicateId(id);
     }
-    let b = checks::check_insert(locks, n, new);
+    let b = checks::check_seen(locks, n, w, new);
     if !answers::is_done(b) {
         return b;
     }
@@ -91,66 +59,75 @@ fn judged(s: LockState, new: ActiveLock) -> Answer
 }
 
 // ---- the change
-pub(crate) fn inserted(s: LockState, new: ActiveLock) -> LockState
+// The lock is put in at its place, and the entries that it covers go, within the state; in one function, since each that takes
+// the state copies it.
+pub(crate) fn inserted(mut s: LockState, new: ActiveLock) -> LockState
     requires { ⌜ Ready s × (s .actives < 64) × (s .revision ≡ lastRevision → ⊥) ⌝ }
     ensures { λ r. ⌜ r ≡ stateOf (insertedIn (modelOf s) new) ⌝ }
 {
-    let locks = s.active;
-    let entries = s.defunct;
-    let active = put_in(locks, s.actives, new);
-    if !defuncts::any_superseded(entries, s.defuncts, new) {
-        return LockState {
-            revision: s.revision + 1,
-            active: active,
-            actives: s.actives + 1,
-            defunct: entries,
-            defuncts: s.defuncts,
-        };
+    let n = s.actives;
+    let mut k: usize = 0;
+    while k < n {
+        let a = s.active[k];
+        if ids::less(new.lock.id, a.lock.id) {
+            break;
+        }
+        k += 1;
     }
-    let wide = defuncts::widened(entries, s.defuncts);
-    let rest = defuncts::superseding(wide, new);
-    let defunct = defuncts::narrowed(rest);
-    LockState {
-        revision: s.revision + 1,
-        active: active,
-        actives: s.actives + 1,
-        defunct: defunct,
-        defuncts: rest.count,
+    let mut j = n;
+    while k < j {
+        let y = s.active[j - 1];
+        s.active[j] = y;
+        j -= 1;
     }
+    s.active[k] = new;
+    s.actives = n + 1;
+    s.revision = s.revision + 1;
+    let m = s.defuncts;
+    let mut goes = [false; LockState::DEFUNCT];
+    let mut some = false;
+    let mut i: usize = 0;
+    while i < m {
+        let d = s.defunct[i];
+        let b = defuncts::is_superseded(new, d);
+        goes[i] = b;
+        some = some | b;
+        i += 1;
+    }
+    if some {
+        s = defuncts::shed_in(s, goes);
+    }
+    s
 }
 
-// ---- the closing check, as the original's validate_invariants
-pub(crate) fn closed(s: LockState, next: LockState) -> Inserted
-    ensures { λ r. ⌜ r ≡ insertedBy s next ⌝ }
-{
-    let v = rules::broken(next);
-    match v {
-        Verdict::Sound => Inserted {
-            told: Answer::Done,
-            state: next,
-        },
-        Verdict::Broken(_) => Inserted {
-            told: Answer::Invariant,
-            state: s,
-        },
-    }
-}
-
-pub fn insert_active(s: LockState, lock: ActiveLock) -> Inserted
+// The state that comes of it is tested, as the original's validate_invariants does: the closing check.
+pub fn insert_active(mut s: LockState, lock: ActiveLock) -> Inserted
     ensures { λ r. ⌜ r ≡ insertActiveOn s lock ⌝ }
 {
+    let mut told = Answer::Done;
     let v = rules::broken(s);
-    if let Verdict::Broken(n) = v {
-        return Inserted {
-            told: Answer::UnsoundState(n),
-            state: s,
-        };
+    match v {
+        Verdict::Broken(n) => {
+            told = Answer::UnsoundState(n);
+        }
+        Verdict::Sound => {
+            let new = state::normal_form(lock);
+            let a = judged(s, new);
+            if !answers::is_done(a) {
+                told = a;
+            } else {
+                let next = inserted(s, new);
+                let w = rules::broken(next);
+                match w {
+                    Verdict::Sound => {
+                        s = next;
+                    }
+                    Verdict::Broken(_) => {
+                        told = Answer::Invariant;
+                    }
+                }
+            }
+        }
     }
-    let new = state::normal_form(lock);
-    let a = judged(s, new);
-    if !answers::is_done(a) {
-        return Inserted { told: a, state: s };
-    }
-    let next = inserted(s, new);
-    closed(s, next)
+    Inserted { told, state: s }
 }

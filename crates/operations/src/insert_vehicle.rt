@@ -57,13 +57,13 @@ fn judged(s: LockState, takes: [bool; LockState::ACTIVE], list: &[u64], new: Act
     if !answers::is_done(d) {
         return d;
     }
-    let e = checks::check_id(locks, n, entries, s.defuncts, new);
-    if !answers::is_done(e) {
-        return e;
+    let id = new.lock.id;
+    let w = checks::look(locks, n, new);
+    if w.same | checks::id_defunct(entries, s.defuncts, id) {
+        return Answer::DuplicateId(id);
     }
-    let f = checks::check_scope(locks, n, new);
-    if !answers::is_done(f) {
-        return f;
+    if w.held {
+        return Answer::DuplicateScope;
     }
     let g = checks::check_revision(s.revision);
     let h = checks::check_taken(locks, n, takes, new);
@@ -75,7 +75,7 @@ fn judged(s: LockState, takes: [bool; LockState::ACTIVE], list: &[u64], new: Act
 }
 
 // ---- the change
-fn nested(new: ActiveLock, a: ActiveLock) -> ActiveLock
+pub(crate) fn nested(new: ActiveLock, a: ActiveLock) -> ActiveLock
     ensures { λ r. ⌜ r ≡ nest new a ⌝ }
 {
     let lock = a.lock;
@@ -113,23 +113,34 @@ pub(crate) fn taken_in(
 pub fn insert_vehicle(s: LockState, lock: ActiveLock, list: &[u64]) -> Inserted
     ensures { λ r. ⌜ r ≡ insertVehicleOn s lock (now (list .entry)) ⌝ }
 {
+    let mut told = Answer::Done;
+    let mut next = s;
     let v = rules::broken(s);
-    if let Verdict::Broken(n) = v {
-        return Inserted {
-            told: Answer::UnsoundState(n),
-            state: s,
-        };
+    match v {
+        Verdict::Broken(n) => {
+            told = Answer::UnsoundState(n);
+        }
+        Verdict::Sound => {
+            let new = state::normal_form(lock);
+            let locks = s.active;
+            let takes = listed_marks(locks, s.actives, list);
+            let a = judged(s, takes, list, new);
+            if !answers::is_done(a) {
+                told = a;
+            } else {
+                let active = taken_in(locks, s.actives, takes, new);
+                next.active = active;
+                next = insert::inserted(next, new);
+                let w = rules::broken(next);
+                match w {
+                    Verdict::Sound => {}
+                    Verdict::Broken(_) => {
+                        told = Answer::Invariant;
+                        next = s;
+                    }
+                }
+            }
+        }
     }
-    let new = state::normal_form(lock);
-    let locks = s.active;
-    let takes = listed_marks(locks, s.actives, list);
-    let a = judged(s, takes, list, new);
-    if !answers::is_done(a) {
-        return Inserted { told: a, state: s };
-    }
-    let active = taken_in(locks, s.actives, takes, new);
-    let mut adopted = s;
-    adopted.active = active;
-    let next = insert::inserted(adopted, new);
-    insert::closed(s, next)
+    Inserted { told, state: next }
 }

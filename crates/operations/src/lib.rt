@@ -5,6 +5,7 @@ pub mod answers;
 mod checks;
 mod defuncts;
 pub mod delete;
+mod entering;
 pub mod insert;
 pub mod insert_vehicle;
 pub mod numbers;

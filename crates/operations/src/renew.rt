@@ -7,20 +7,19 @@ use rules::Verdict;
 use state::ActiveLock;
 use state::LockState;
 ghost use mathlib.Core.Path.{_≡_};
-ghost use Prim.Native.Nat.{_≤_, _<_};
-ghost use Rattle.state.specs.Model.{modelOf};
+ghost use Prim.Native.Nat.{_≤_};
+ghost use lib.ListN.{take};
 ghost use Rattle.operations.specs.Code.{placeIn};
 ghost use Rattle.operations.specs.Renew.{extended, judgeLock, renewOn};
 
 // The place of the lock with this id; the count where there is none.
-pub(crate) fn place_of(s: LockState, id: LockId) -> usize
-    requires { ⌜ s .actives ≤ 64 ⌝ }
-    ensures { λ r. ⌜ r ≡ placeIn id (modelOf s .active) ⌝ }
+pub(crate) fn place_of(locks: [ActiveLock; LockState::ACTIVE], n: usize, id: LockId) -> usize
+    requires { ⌜ n ≤ 64 ⌝ }
+    ensures { λ r. ⌜ r ≡ placeIn id (take n locks) ⌝ }
 {
-    let n = s.actives;
     let mut i: usize = 0;
     while i < n {
-        let a = s.active[i];
+        let a = locks[i];
         if state::has_id(id, a) {
             return i;
         }
@@ -59,7 +58,7 @@ fn judge(a: ActiveLock, revision: u64, expires: u64, now: u64) -> Renewal
 // The lock's expires_at moves on, its metadata too where some is given. The state that comes of it is sound and is not tested
 // again (C-21; promises, closing-idle).
 pub fn renew(
-    s: LockState,
+    mut s: LockState,
     id: LockId,
     expires: u64,
     now: u64,
@@ -68,31 +67,27 @@ pub fn renew(
 ) -> Renewed
     ensures { λ r. ⌜ r ≡ renewOn s id expires now given metadata ⌝ }
 {
+    let mut told = Renewal::Done;
     let v = rules::broken(s);
-    if let Verdict::Broken(n) = v {
-        return Renewed {
-            told: Renewal::UnsoundState(n),
-            state: s,
-        };
+    match v {
+        Verdict::Broken(n) => {
+            told = Renewal::UnsoundState(n);
+        }
+        Verdict::Sound => {
+            let mut locks = s.active;
+            let i = place_of(locks, s.actives, id);
+            if s.actives <= i {
+                told = Renewal::ActiveLockNotFound(id);
+            } else {
+                let a = locks[i];
+                told = judge(a, s.revision, expires, now);
+                if let Renewal::Done = told {
+                    locks[i] = extend(a, expires, given, metadata);
+                    s.active = locks;
+                    s.revision = s.revision + 1;
+                }
+            }
+        }
     }
-    let i = place_of(s, id);
-    if s.actives <= i {
-        return Renewed {
-            told: Renewal::ActiveLockNotFound(id),
-            state: s,
-        };
-    }
-    let a = s.active[i];
-    let told = judge(a, s.revision, expires, now);
-    let Renewal::Done = told else {
-        return Renewed { told, state: s };
-    };
-    let x = extend(a, expires, given, metadata);
-    let mut next = s;
-    next.active[i] = x;
-    next.revision = s.revision + 1;
-    Renewed {
-        told: Renewal::Done,
-        state: next,
-    }
+    Renewed { told, state: s }
 }

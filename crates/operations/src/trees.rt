@@ -1,16 +1,13 @@
 // Trees of active locks that are removed.
 // SPDX-License-Identifier: Apache-2.0
-use ids::LockId;
 use state::ActiveLock;
 use state::LockState;
-ghost use mathlib.Core.List.{map};
 ghost use mathlib.Core.Path.{_≡_};
 ghost use Prim.Native.Nat.{_≤_};
 ghost use lib.ListN.{take};
 ghost use Rattle.lists.specs.Lists.{any};
-ghost use Rattle.state.specs.Locks.{hasId};
-ghost use Rattle.operations.specs.Trees.{childOf, inTree, treeParts, rootsParts, startParts};
-ghost use Rattle.operations.specs.Code.{picks, Placed, splitOf, partsIn, lockAt, Sorting, startHalves, takeHalves, treeHalves, rootHalves, picksAt, halvesOf, placesOf};
+ghost use Rattle.operations.specs.Trees.{childOf, inTree, treeParts, startParts};
+ghost use Rattle.operations.specs.Code.{Placed, splitOf, partsIn, Sorting, startHalves, takeHalves, marked, markedTree, markedRoot, rootsHalves, halvesOf, placesOf};
 
 // The active locks: those that stay, and those that went, in the order of their going.
 pub(crate) struct Split {
@@ -21,7 +18,7 @@ pub(crate) struct Split {
 }
 
 // The same as places in the list that came in, so that each lock is moved once, at the end.
-struct Places {
+pub(crate) struct Places {
     left: usize,
     kept: [usize; LockState::ACTIVE],
     gone: usize,
@@ -41,21 +38,10 @@ pub(crate) fn in_tree(r: ActiveLock, a: ActiveLock) -> bool
     child_of(r, a) | lookups::narrow_of(r, a) | state::has_id(r.lock.id, a)
 }
 
-// The three steps of a tree's removal: the children, what a group covers, the root.
-fn picked(step: u8, r: ActiveLock, a: ActiveLock) -> bool
-    ensures { λ x. ⌜ x ≡ picks step r a ⌝ }
-{
-    match step {
-        0 => child_of(r, a),
-        1 => lookups::narrow_of(r, a),
-        _ => state::has_id(r.lock.id, a),
-    }
-}
-
 // One step: the places that go are listed, and those that stay are written into a fresh list.
-fn take_out(s: Places, locks: [ActiveLock; LockState::ACTIVE], step: u8, r: ActiveLock) -> Places
+fn take_out(s: Places, goes: [bool; LockState::ACTIVE]) -> Places
     requires { ⌜ Sorting s ⌝ }
-    ensures { λ x. ⌜ x ≡ placesOf (takeHalves (picksAt step locks r) (halvesOf s)) ⌝ }
+    ensures { λ x. ⌜ x ≡ placesOf (takeHalves (marked goes) (halvesOf s)) ⌝ }
 {
     let n = s.left;
     let mut kept = [0usize; LockState::ACTIVE];
@@ -66,8 +52,7 @@ fn take_out(s: Places, locks: [ActiveLock; LockState::ACTIVE], step: u8, r: Acti
     while i < n {
         let j = s.kept[i];
         i += 1;
-        let a = locks[j];
-        if picked(step, r, a) {
+        if goes[j] {
             went[g] = j;
             g += 1;
         } else {
@@ -83,26 +68,30 @@ fn take_out(s: Places, locks: [ActiveLock; LockState::ACTIVE], step: u8, r: Acti
     }
 }
 
-// The tree of r goes: its children, then what a group covers, then r.
-fn cut_tree(s: Places, locks: [ActiveLock; LockState::ACTIVE], r: ActiveLock) -> Places
+// A tree goes, by the marks of its three steps: the children, then what a group covers, then the root.
+fn cut_tree(
+    s: Places,
+    children: [bool; LockState::ACTIVE],
+    narrow: [bool; LockState::ACTIVE],
+    root: [bool; LockState::ACTIVE],
+) -> Places
     requires { ⌜ Sorting s ⌝ }
-    ensures { λ x. ⌜ x ≡ placesOf (treeHalves locks r (halvesOf s)) ⌝ }
+    ensures { λ x. ⌜ x ≡ placesOf (markedTree children narrow root (halvesOf s)) ⌝ }
 {
-    take_out(take_out(take_out(s, locks, 0, r), locks, 1, r), locks, 2, r)
+    take_out(take_out(take_out(s, children), narrow), root)
 }
 
-// Whether a lock that stays has the id.
-fn is_left(s: Places, locks: [ActiveLock; LockState::ACTIVE], id: LockId) -> bool
+// Whether one that stays is marked.
+fn is_left(s: Places, root: [bool; LockState::ACTIVE]) -> bool
     requires { ⌜ Sorting s ⌝ }
-    ensures { λ r. ⌜ r ≡ any (hasId id) (map (lockAt locks) (halvesOf s .kept)) ⌝ }
+    ensures { λ r. ⌜ r ≡ any (marked root) (halvesOf s .kept) ⌝ }
 {
     let n = s.left;
     let mut i: usize = 0;
     while i < n {
         let j = s.kept[i];
         i += 1;
-        let a = locks[j];
-        if state::has_id(id, a) {
+        if root[j] {
             return true;
         }
     }
@@ -110,12 +99,17 @@ fn is_left(s: Places, locks: [ActiveLock; LockState::ACTIVE], id: LockId) -> boo
 }
 
 // A root that went with an earlier tree takes nothing with it.
-fn root_out(s: Places, locks: [ActiveLock; LockState::ACTIVE], r: ActiveLock) -> Places
+fn root_out(
+    s: Places,
+    children: [bool; LockState::ACTIVE],
+    narrow: [bool; LockState::ACTIVE],
+    root: [bool; LockState::ACTIVE],
+) -> Places
     requires { ⌜ Sorting s ⌝ }
-    ensures { λ x. ⌜ x ≡ placesOf (rootHalves locks r (halvesOf s)) ⌝ }
+    ensures { λ x. ⌜ x ≡ placesOf (markedRoot children narrow root (halvesOf s)) ⌝ }
 {
-    if is_left(s, locks, r.lock.id) {
-        return cut_tree(s, locks, r);
+    if is_left(s, root) {
+        return cut_tree(s, children, narrow, root);
     }
     s
 }
@@ -140,7 +134,7 @@ fn all_places(n: usize) -> Places
 
 // Within the one list that came in: those that went are read out of it first; then each place takes its lock, from itself or
 // from a later place, and the places left over are blanked. One function, since a list that is handed on is copied.
-fn moved(s: Places, mut locks: [ActiveLock; LockState::ACTIVE]) -> Split
+pub(crate) fn moved(s: Places, mut locks: [ActiveLock; LockState::ACTIVE]) -> Split
     requires { ⌜ Sorting s ⌝ }
     ensures { λ x. ⌜ x ≡ splitOf (partsIn locks (halvesOf s)) ⌝ }
 {
@@ -171,19 +165,31 @@ fn moved(s: Places, mut locks: [ActiveLock; LockState::ACTIVE]) -> Split
     }
 }
 
-// The first n locks without the tree of r.
+// The first n locks without the tree of r. The marks are made here, and below once more, since a list that is handed on is
+// copied.
 pub(crate) fn tree_out(locks: [ActiveLock; LockState::ACTIVE], n: usize, r: ActiveLock) -> Split
     requires { ⌜ Placed locks n ⌝ }
     ensures { λ x. ⌜ x ≡ splitOf (treeParts r (startParts (take n locks))) ⌝ }
 {
-    let s = cut_tree(all_places(n), locks, r);
+    let mut children = [false; LockState::ACTIVE];
+    let mut narrow = [false; LockState::ACTIVE];
+    let mut root = [false; LockState::ACTIVE];
+    let mut i: usize = 0;
+    while i < n {
+        let a = locks[i];
+        children[i] = child_of(r, a);
+        narrow[i] = lookups::narrow_of(r, a);
+        root[i] = state::has_id(r.lock.id, a);
+        i += 1;
+    }
+    let s = cut_tree(all_places(n), children, narrow, root);
     moved(s, locks)
 }
 
-// The first n locks without the trees of the listed roots, ascending, each from what then remains.
-pub(crate) fn roots_out(locks: [ActiveLock; LockState::ACTIVE], n: usize, list: &[u64]) -> Split
+// The places of the first n locks once the trees of the listed roots are out, ascending, each from what then remains.
+pub(crate) fn roots_out(locks: [ActiveLock; LockState::ACTIVE], n: usize, list: &[u64]) -> Places
     requires { ⌜ Placed locks n ⌝ }
-    ensures { λ x. ⌜ x ≡ splitOf (rootsParts (now (list .entry)) (take n locks)) ⌝ }
+    ensures { λ x. ⌜ x ≡ placesOf (rootsHalves (now (list .entry)) locks n) ⌝ }
 {
     let mut out = all_places(n);
     let mut at: usize = 0;
@@ -191,8 +197,19 @@ pub(crate) fn roots_out(locks: [ActiveLock; LockState::ACTIVE], n: usize, list: 
         let r = locks[at];
         at += 1;
         if ids::listed(list, r.lock.id) {
-            out = root_out(out, locks, r);
+            let mut children = [false; LockState::ACTIVE];
+            let mut narrow = [false; LockState::ACTIVE];
+            let mut root = [false; LockState::ACTIVE];
+            let mut i: usize = 0;
+            while i < n {
+                let a = locks[i];
+                children[i] = child_of(r, a);
+                narrow[i] = lookups::narrow_of(r, a);
+                root[i] = state::has_id(r.lock.id, a);
+                i += 1;
+            }
+            out = root_out(out, children, narrow, root);
         }
     }
-    moved(out, locks)
+    out
 }

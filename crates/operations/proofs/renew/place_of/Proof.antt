@@ -2,12 +2,11 @@ use mathlib.Core.Path.{_≡_, refl, sym, _∙_}
 use Prim.Native.Nat.{_≤_, _-_}
 use native.Mathlib.Omega.{arith}
 use borrow.Author.Needs.{needs}
-use lib.ListN.{length}
+use lib.ListN.{length, take}
 use lib.Seq.{slice}
 use Rattle.lists.proofs.First.{placeOf, place-yes, place-no, place-end}
 use Rattle.lists.proofs.Loops.{length-of-mapped}
 use Rattle.state.specs.Locks.{hasId}
-use Rattle.state.specs.Model.{modelOf}
 use Rattle.operations.specs.Code.{placeIn}
 use Rattle.operations.proofs.renew.place_of.Statement.{statement}
 use Rattle.operations.proofs.renew.place_of.Tie as tie
@@ -16,13 +15,13 @@ use Rattle.operations.proofs.renew.place_of.Lts as lts
 use Rattle.state.proofs.has_id.Reads as has-id-reads
 
 abbrev Inv-loop : tie.InvT-loop
-Inv-loop id s n i₀ i = (i ≤ n) × (placeOf (hasId id) (slice i n (s .active)) i ≡ placeIn id (modelOf s .active))
+Inv-loop n id l i₀ i = (i ≤ n) × (placeOf (hasId id) (slice i n l) i ≡ placeIn id (take n l))
 
 abbrev μ-loop : tie.MeasureT-loop
-μ-loop id s n i₀ i = n - i
+μ-loop n id l i₀ i = n - i
 
-long : (c : tie.Start Inv-loop μ-loop) → c .args .t1 .actives ≤ length (c .args .t1 .active)
-long c = let e : length (c .args .t1 .active) ≡ 64 = search (needs, length-of-mapped) in omega arith
+long : (c : tie.Start Inv-loop μ-loop) → c .args .n ≤ length (c .args .t1)
+long c = let e : length (c .args .t1) ≡ 64 = search (needs, length-of-mapped) in omega arith
 
 loop-holds : tie.Need-loop-holds Inv-loop μ-loop
 loop-holds c = (omega arith, refl)
@@ -30,8 +29,8 @@ loop-holds c = (omega arith, refl)
 mul-a : tie.Need-mul-a Inv-loop μ-loop
 mul-a c = omega arith
 
-element-copy-out-a : tie.Need-element-copy-out-a Inv-loop μ-loop
-element-copy-out-a c = omega arith
+array-copy-out-a : tie.Need-array-copy-out-a Inv-loop μ-loop
+array-copy-out-a c = omega arith
 
 has-id-requires : tie.Need-has-id-requires Inv-loop μ-loop
 has-id-requires c κs = tt
@@ -63,7 +62,7 @@ place-of-spec =
     μ-loop
     loop-holds
     mul-a
-    element-copy-out-a
+    array-copy-out-a
     has-id-requires
     returns
     add-i

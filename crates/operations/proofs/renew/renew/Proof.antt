@@ -25,20 +25,20 @@ use Rattle.operations.proofs.renew.place_of.Reads as place-of-reads
 use Rattle.rules.proofs.broken.Reads as broken-reads
 
 -- what the test of the state told, and the place that was found
-tested : (c : tie.After-enum-told) → brokenRule (c .before .before .before .args .t1) ≡ Sound
+tested : (c : tie.After-enum-told) → brokenRule (c .before .before .before .args .s) ≡ Sound
 tested c = sym (c .before .before .broken .ensures) ∙ c .enum-told .given .1
 
-tidy : (c : tie.After-enum-told) → Tidy (c .before .before .before .args .t1)
-tidy c = tidy-of-sound (c .before .before .before .args .t1) (search (needs, length-of-mapped)) (search (needs, length-of-mapped)) (tested c)
+tidy : (c : tie.After-enum-told) → Tidy (c .before .before .before .args .s)
+tidy c = tidy-of-sound (c .before .before .before .args .s) (search (needs, length-of-mapped)) (search (needs, length-of-mapped)) (tested c)
 
-order : (c : tie.After-enum-told) → ascending akey (modelOf (c .before .before .before .args .t1) .active) ≡ true
+order : (c : tie.After-enum-told) → ascending akey (modelOf (c .before .before .before .args .s) .active) ≡ true
 unfolding inOrder
 order c = and-l _ _ (facts-of-state _ (tested c) .order)
 
-index : (c : tie.Else1) → c .before .place-of .result < 64
-index c = omega (arith, tidy (c .before .before) .active)
+index : (c : tie.Else1) → c .before .before .place-of .result < 64
+index c = omega (arith, tidy (c .before .before .before .before) .active)
 
-last-fits : (c : tie.Start) → c .args .t1 .revision < 2 ^ 64
+last-fits : (c : tie.Start) → c .args .s .revision < 2 ^ 64
 last-fits c = omega arith
 
 broken-requires : tie.Need-broken-requires
@@ -47,24 +47,17 @@ broken-requires c κs = search needs
 enum-known-v : tie.Need-enum-known-v
 enum-known-v c = search needs
 
-returns : tie.Need-returns
-unfolding renewOn
-returns c = on-broken _ _ _ _ _ (c .before .before .before .broken .ensures) (c .before .v .given .1)
-
 enum-told : tie.Need-enum-told
 enum-told c = search needs
 
 place-of-requires : tie.Need-place-of-requires
-place-of-requires c κs = tidy c .active
-
-returns-2 : tie.Need-returns-2
-returns-2 c = laws.absent _ _ _ _ _ _ (tested (c .before .before)) (tidy (c .before .before)) _ (c .before .place-of .ensures) (c .if1 .taken)
+place-of-requires c κs = tidy (c .before) .active
 
 mul-a : tie.Need-mul-a
 mul-a c = omega (arith, index c)
 
-element-copy-out-a : tie.Need-element-copy-out-a
-element-copy-out-a c = index c
+array-copy-out-a : tie.Need-array-copy-out-a
+array-copy-out-a c = index c
 
 judge-requires : tie.Need-judge-requires
 judge-requires c κs = search needs
@@ -72,35 +65,42 @@ judge-requires c κs = search needs
 enum-told-2 : tie.Need-enum-told-2
 enum-told-2 c = search needs
 
-returns-3 : tie.Need-returns-3
-unfolding blankActive
-returns-3 c =
-    let f = c .before .before .before in
-    let b = f .before .before in
-    laws.refused _ _ _ _ _ _ (tested b) (tidy b) _ (f .before .place-of .ensures) (f .if1 .left) _ (c .before .judge .ensures) (laws.kept _ (c .match2 .keys2) _ _)
-
 extend-requires : tie.Need-extend-requires
 extend-requires c κs = search needs
 
-mul-x : tie.Need-mul-x
-mul-x c = omega (arith, index (c .before .before .before .before .before))
+mul-locks : tie.Need-mul-locks
+mul-locks c = omega (arith, index (c .before .before .before .before .before))
 
-element-set-from-x : tie.Need-element-set-from-x
-element-set-from-x c = index (c .before .before .before .before .before)
+array-set-from-locks : tie.Need-array-set-from-locks
+array-set-from-locks c = index (c .before .before .before .before .before)
 
-add-next : tie.Need-add-next
+add-s : tie.Need-add-s
 unfolding blankActive
-add-next c =
-    let p = c .before .before .before .before .before .before .before .before .before .before in
-    let a = getD (p .args .t1 .active) (c .before .before .before .before .before .before .place-of .result) blankActive in
-    omega (arith, laws.can-rise (p .args .t1 .revision) (p .args .expires) (p .args .now) a (sym (c .before .before .before .judge .ensures) ∙ c .before .enum-told2 .given .1), last-fits p)
+add-s c =
+    let p = c .before .before .before .before .before .before .before .before .before .before .before .before .before in
+    let a = getD (p .args .s .active) (c .before .before .before .before .before .before .before .before .place-of .result) blankActive in
+    omega (arith, laws.can-rise (p .args .s .revision) (p .args .expires) (p .args .now) a (sym (c .before .before .before .before .judge .ensures) ∙ c .before .before .enum-told2 .given .1), last-fits p)
+
+returns : tie.Need-returns
+unfolding renewOn
+returns c = on-broken _ _ _ _ _ (c .before .before .before .broken .ensures) (c .before .v .given .1)
+
+returns-2 : tie.Need-returns-2
+returns-2 c = let b = c .before .before .before .before in laws.absent _ _ _ _ _ _ (tested b) (tidy b) _ (c .before .before .place-of .ensures) (c .if1 .taken)
+
+returns-3 : tie.Need-returns-3
+unfolding blankActive
+returns-3 c =
+    let f = c .before .before .before .before .before .before in
+    let b = f .before .before .before .before in
+    laws.done _ _ _ _ _ _ (tested b) (tidy b) _ (f .before .before .place-of .ensures) (f .if1 .left) _ (c .before .before .before .before .judge .ensures) (c .before .before .enum-told2 .given .1) (order b) _ (c .before .extend .ensures)
 
 returns-4 : tie.Need-returns-4
 unfolding blankActive
 returns-4 c =
-    let f = c .before .before .before .before .before in
-    let b = f .before .before in
-    laws.done _ _ _ _ _ _ (tested b) (tidy b) _ (f .before .place-of .ensures) (f .if1 .left) _ (c .before .before .before .judge .ensures) (c .before .enum-told2 .given .1) (order b) _ (c .extend .ensures)
+    let f = c .before .before .before in
+    let b = f .before .before .before .before in
+    laws.refused _ _ _ _ _ _ (tested b) (tidy b) _ (f .before .before .place-of .ensures) (f .if1 .left) _ (c .before .judge .ensures) (laws.kept _ (c .match2 .keys2) _ _)
 
 pub renew-spec : {M : Type 1} → statement M
 renew-spec =
@@ -108,17 +108,17 @@ renew-spec =
     (tie.spec
     broken-requires
     enum-known-v
-    returns
     enum-told
     place-of-requires
-    returns-2
     mul-a
-    element-copy-out-a
+    array-copy-out-a
     judge-requires
     enum-told-2
-    returns-3
     extend-requires
-    mul-x
-    element-set-from-x
-    add-next
+    mul-locks
+    array-set-from-locks
+    add-s
+    returns
+    returns-2
+    returns-3
     returns-4)

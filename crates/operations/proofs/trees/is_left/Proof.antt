@@ -1,28 +1,23 @@
-use mathlib.Core.Path.{_≡_, refl, sym, ap, _∙_}
-use mathlib.Core.Bool.{Bool, true, false, not}
-use mathlib.Core.List.{List}
-use Prim.Native.Nat.{ℕ, _≤_, _<_, _+_, _-_}
+use mathlib.Core.Path.{_≡_, refl, sym, _∙_}
+use Prim.Native.Nat.{_≤_, _<_, _-_}
 use native.Mathlib.Omega.{arith}
 use borrow.Author.Needs.{needs}
-use lib.ListN.{length, getD, take, replicate}
+use lib.ListN.{length, getD, take}
 use lib.Seq.{slice}
-use Rattle.lists.proofs.Loops.{length-of-mapped}
 use Rattle.lists.specs.Lists.{any}
-use Rattle.lists.proofs.Loops.{any-yes, any-no, any-end}
-use Rattle.state.specs.Locks.{hasId, blankActive}
-use Rattle.operations.specs.Code.{lockAt, halvesOf}
-use Rattle.operations.proofs.Going.{low-of, any-map}
+use Rattle.lists.proofs.Loops.{length-of-mapped, any-yes, any-no, any-end}
+use Rattle.operations.specs.Code.{marked}
+use Rattle.operations.proofs.Going.{low-of}
 use Rattle.operations.proofs.trees.is_left.Statement.{statement}
 use Rattle.operations.proofs.trees.is_left.Tie as tie
 use Rattle.operations.proofs.trees.is_left.Reads as reads
 use Rattle.operations.proofs.trees.is_left.Lts as lts
-use Rattle.state.proofs.has_id.Reads as has-id-reads
 
 abbrev Inv-loop : tie.InvT-loop
-Inv-loop id s l n i₀ i = (i ≤ n) × (any (λ j. hasId id (lockAt l j)) (slice i n (s .kept)) ≡ any (λ j. hasId id (lockAt l j)) (take n (s .kept)))
+Inv-loop s root n i₀ i = (i ≤ n) × (any (marked root) (slice i n (s .kept)) ≡ any (marked root) (take n (s .kept)))
 
 abbrev μ-loop : tie.MeasureT-loop
-μ-loop id s l n i₀ i = n - i
+μ-loop s root n i₀ i = n - i
 
 long : (c : tie.Start Inv-loop μ-loop) → c .args .t1 .left ≤ length (c .args .t1 .kept)
 long c = let e : length (c .args .t1 .kept) ≡ 64 = search (needs, length-of-mapped) in omega (arith, c .pre .room)
@@ -42,28 +37,20 @@ element-copy-out-j c = omega (arith, c .before .before .pre .room)
 add-i : tie.Need-add-i Inv-loop μ-loop
 add-i c = omega arith
 
-mul-a : tie.Need-mul-a Inv-loop μ-loop
-mul-a c = omega (arith, low (c .before))
-
-array-copy-out-a : tie.Need-array-copy-out-a Inv-loop μ-loop
-array-copy-out-a c = omega (arith, low (c .before))
-
-has-id-requires : tie.Need-has-id-requires Inv-loop μ-loop
-has-id-requires c κs = tt
+array-read-if1 : tie.Need-array-read-if1 Inv-loop μ-loop
+array-read-if1 c = low (c .before)
 
 returns : tie.Need-returns Inv-loop μ-loop
-unfolding blankActive
-returns c = let o = c .before .before .before .before .before .before in sym (any-yes (λ j. hasId (o .args .id) (lockAt (o .args .t2) j)) (o .args .t1 .kept) (o .args .t1 .left) (c .before .before .before .before .before .loop .i) 0 (c .before .before .before .before .loop-test .taken) (long o) (sym (c .before .has-id .ensures) ∙ c .if1 .taken)) ∙ c .before .before .before .before .before .loop .inv .1 ∙ any-map (lockAt (o .args .t2)) (hasId (o .args .id)) (halvesOf (o .args .t1) .kept)
+returns c = let o = c .before .before .before .before in sym (any-yes (marked (o .args .t2)) (o .args .t1 .kept) (o .args .t1 .left) (c .before .before .before .loop .i) 0 (c .before .before .loop-test .taken) (long o) (c .if1 .taken)) ∙ c .before .before .before .loop .inv .1
 
 loop-less : tie.Need-loop-less Inv-loop μ-loop
 loop-less c = omega arith
 
 loop-again : tie.Need-loop-again Inv-loop μ-loop
-unfolding blankActive
-loop-again c = let o = c .before .before .before .before .before .before in (omega arith, sym (any-no (λ j. hasId (o .args .id) (lockAt (o .args .t2) j)) (o .args .t1 .kept) (o .args .t1 .left) (c .before .before .before .before .before .loop .i) 0 (c .before .before .before .before .loop-test .taken) (long o) (sym (c .before .has-id .ensures) ∙ c .if1 .left)) ∙ c .before .before .before .before .before .loop .inv .1)
+loop-again c = let o = c .before .before .before .before in (omega arith, sym (any-no (marked (o .args .t2)) (o .args .t1 .kept) (o .args .t1 .left) (c .before .before .before .loop .i) 0 (c .before .before .loop-test .taken) (long o) (c .if1 .left)) ∙ c .before .before .before .loop .inv .1)
 
 returns-2 : tie.Need-returns-2 Inv-loop μ-loop
-returns-2 c = let o = c .before .before in sym (any-end (λ j. hasId (o .args .id) (lockAt (o .args .t2) j)) _ _ _ (c .before .loop .inv .0) (c .loop-test .left)) ∙ c .before .loop .inv .1 ∙ any-map (lockAt (o .args .t2)) (hasId (o .args .id)) (halvesOf (o .args .t1) .kept)
+returns-2 c = let o = c .before .before in sym (any-end (marked (o .args .t2)) _ _ _ (c .before .loop .inv .0) (c .loop-test .left)) ∙ c .before .loop .inv .1
 
 pub is-left-spec : {M : Type 1} → statement M
 is-left-spec =
@@ -75,9 +62,7 @@ is-left-spec =
     mul-j
     element-copy-out-j
     add-i
-    mul-a
-    array-copy-out-a
-    has-id-requires
+    array-read-if1
     returns
     loop-less
     loop-again
