@@ -5,24 +5,30 @@ use operations::acknowledge;
 use operations::answers::Acknowledgement;
 use operations::answers::Answer;
 use operations::answers::DefunctExpiry;
-use operations::answers::DefunctsExpired;
-use operations::answers::Deleted;
 use operations::answers::Deletion;
 use operations::answers::Expiration;
-use operations::answers::Expired;
 use operations::answers::Renewal;
-use operations::answers::Replaced;
 use operations::delete;
 use operations::insert;
 use operations::insert_vehicle;
 use operations::numbers;
 use operations::renew;
 use operations::replace;
+use records::requests::ExpirationRequest;
+use records::requests::RenewRequest;
+use records::requests::ReplaceRequest;
 use records::requests::Request;
 use state::ActiveLock;
 use state::LockState;
 ghost use mathlib.Core.Path.{_≡_};
-ghost use Rattle.calls.specs.Calls.{removing, plain, byDelete, byExpiration, byReplace, byExpiry, performOn, outcomePaper};
+ghost use Rattle.operations.specs.Insert.{insertActiveOn};
+ghost use Rattle.operations.specs.Vehicle.{insertVehicleOn};
+ghost use Rattle.operations.specs.Renew.{renewOn};
+ghost use Rattle.operations.specs.Delete.{deleteOn, beginExpirationOn};
+ghost use Rattle.operations.specs.Replace.{commitReplacementOn};
+ghost use Rattle.operations.specs.Acknowledge.{acknowledgeOn, expireDefunctOn};
+ghost use Rattle.calls.specs.declared.Outcome.the-variants as O;
+ghost use Rattle.calls.specs.Calls.{removing, plain, byInsert, byRenew, byDelete, byExpiration, byReplace, byAcknowledge, byExpiry, performOn, outcomePaper};
 
 // What the operation answered.
 pub enum Outcome {
@@ -73,9 +79,46 @@ fn plain(outcome: Outcome, state: LockState) -> Performed
     removing(outcome, 0, [b; LockState::ACTIVE], state)
 }
 
-fn deleted(done: Deleted) -> Performed
-    ensures { λ r. ⌜ r ≡ byDelete done ⌝ }
+// ---- each operation in a function of its own, so that their results share one place on the stack
+fn by_insert(state: LockState, lock: ActiveLock) -> Performed
+    ensures { λ r. ⌜ r ≡ byInsert O.Inserted (insertActiveOn state lock) ⌝ }
 {
+    let done = insert::insert_active(state, lock);
+    let told = done.told;
+    let left = done.state;
+    plain(Outcome::Inserted(told), left)
+}
+
+fn by_vehicle(state: LockState, lock: ActiveLock, list: &[u64]) -> Performed
+    ensures { λ r. ⌜ r ≡ byInsert O.VehicleInserted (insertVehicleOn state lock (now (list .entry))) ⌝ }
+{
+    let done = insert_vehicle::insert_vehicle(state, lock, list);
+    let told = done.told;
+    let left = done.state;
+    plain(Outcome::VehicleInserted(told), left)
+}
+
+fn by_renew(state: LockState, asked: RenewRequest) -> Performed
+    ensures { λ r. ⌜ r ≡ byRenew (renewOn state (asked .id) (asked .expires) (asked .now) (asked .given) (asked .metadata)) ⌝ }
+{
+    let id = asked.id;
+    let done = renew::renew(
+        state,
+        id,
+        asked.expires,
+        asked.now,
+        asked.given,
+        asked.metadata,
+    );
+    let told = done.told;
+    let left = done.state;
+    plain(Outcome::Renewed(told), left)
+}
+
+fn by_delete(state: LockState, id: LockId) -> Performed
+    ensures { λ r. ⌜ r ≡ byDelete (deleteOn state id) ⌝ }
+{
+    let done = delete::delete(state, id);
     let left = done.state;
     let told = done.told;
     let answer = told.answer;
@@ -83,9 +126,11 @@ fn deleted(done: Deleted) -> Performed
     removing(Outcome::Deleted(answer), told.gone, removed, left)
 }
 
-fn expired(done: Expired) -> Performed
-    ensures { λ r. ⌜ r ≡ byExpiration done ⌝ }
+fn by_expiration(state: LockState, asked: ExpirationRequest) -> Performed
+    ensures { λ r. ⌜ r ≡ byExpiration (beginExpirationOn state (asked .id) (asked .now)) ⌝ }
 {
+    let id = asked.id;
+    let done = delete::begin_expiration(state, id, asked.now);
     let left = done.state;
     let told = done.told;
     let answer = told.answer;
@@ -93,9 +138,11 @@ fn expired(done: Expired) -> Performed
     removing(Outcome::ExpirationBegun(answer), told.gone, removed, left)
 }
 
-fn replaced(done: Replaced) -> Performed
-    ensures { λ r. ⌜ r ≡ byReplace done ⌝ }
+fn by_replace(state: LockState, asked: ReplaceRequest, list: &[u64]) -> Performed
+    ensures { λ r. ⌜ r ≡ byReplace (commitReplacementOn state (now (list .entry)) (asked .lock) (asked .breaker) (asked .broken)) ⌝ }
 {
+    let lock = asked.lock;
+    let done = replace::commit_replacement(state, list, lock, asked.breaker, asked.broken);
     let left = done.state;
     let told = done.told;
     let answer = told.answer;
@@ -103,9 +150,19 @@ fn replaced(done: Replaced) -> Performed
     removing(Outcome::Replaced(answer), told.gone, removed, left)
 }
 
-fn defuncts_expired(done: DefunctsExpired) -> Performed
-    ensures { λ r. ⌜ r ≡ byExpiry done ⌝ }
+fn by_acknowledge(state: LockState, id: LockId) -> Performed
+    ensures { λ r. ⌜ r ≡ byAcknowledge (acknowledgeOn state id) ⌝ }
 {
+    let done = acknowledge::acknowledge_defunct(state, id);
+    let told = done.told;
+    let left = done.state;
+    plain(Outcome::Acknowledged(told), left)
+}
+
+fn by_expiry(state: LockState, now: u64) -> Performed
+    ensures { λ r. ⌜ r ≡ byExpiry (expireDefunctOn state now) ⌝ }
+{
+    let done = acknowledge::expire_defunct(state, now);
     let left = done.state;
     let told = done.told;
     let answer = told.answer;
@@ -126,41 +183,14 @@ pub fn perform(state: LockState, request: Request, list: &[u64]) -> Performed
     ensures { λ r. ⌜ r ≡ performOn state request (now (list .entry)) ⌝ }
 {
     match request {
-        Request::Insert(lock) => {
-            let done = insert::insert_active(state, lock);
-            let told = done.told;
-            let left = done.state;
-            plain(Outcome::Inserted(told), left)
-        }
-        Request::InsertVehicle(lock) => {
-            let done = insert_vehicle::insert_vehicle(state, lock, list);
-            let told = done.told;
-            let left = done.state;
-            plain(Outcome::VehicleInserted(told), left)
-        }
-        Request::Renew(r) => {
-            let id = r.id;
-            let done = renew::renew(state, id, r.expires, r.now, r.given, r.metadata);
-            let told = done.told;
-            let left = done.state;
-            plain(Outcome::Renewed(told), left)
-        }
-        Request::Delete(id) => deleted(delete::delete(state, id)),
-        Request::BeginExpiration(r) => {
-            let id = r.id;
-            expired(delete::begin_expiration(state, id, r.now))
-        }
-        Request::Replace(r) => {
-            let lock = r.lock;
-            replaced(replace::commit_replacement(state, list, lock, r.breaker, r.broken))
-        }
-        Request::Acknowledge(id) => {
-            let done = acknowledge::acknowledge_defunct(state, id);
-            let told = done.told;
-            let left = done.state;
-            plain(Outcome::Acknowledged(told), left)
-        }
-        Request::ExpireDefunct(now) => defuncts_expired(acknowledge::expire_defunct(state, now)),
+        Request::Insert(lock) => by_insert(state, lock),
+        Request::InsertVehicle(lock) => by_vehicle(state, lock, list),
+        Request::Renew(asked) => by_renew(state, asked),
+        Request::Delete(id) => by_delete(state, id),
+        Request::BeginExpiration(asked) => by_expiration(state, asked),
+        Request::Replace(asked) => by_replace(state, asked, list),
+        Request::Acknowledge(id) => by_acknowledge(state, id),
+        Request::ExpireDefunct(now) => by_expiry(state, now),
     }
 }
 

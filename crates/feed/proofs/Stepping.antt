@@ -13,6 +13,7 @@ use Rattle.lookups.proofs.Verdicts.{on-broken, on-sound}
 use Rattle.records.specs.declared.frame.Frame.{Frame}
 use Rattle.records.specs.declared.frame.Framed.{Framed}
 use Rattle.records.specs.declared.frame.Framed.the-variants as framed
+use Rattle.records.specs.declared.requests.Request.{Request}
 use Rattle.records.specs.declared.requests.Asked.{Asked}
 use Rattle.records.specs.declared.requests.Asked.the-variants as asked
 use Rattle.records.specs.Table.{inFeed}
@@ -20,11 +21,15 @@ use Rattle.records.specs.Framing.{frameAt}
 use Rattle.records.specs.Feeds.{requestOf}
 use Rattle.image.specs.declared.Spare.{Spare}
 use Rattle.calls.specs.declared.Performed.{Performed}
+use Rattle.calls.specs.Calls.{performOn, outcomePaper}
+use Rattle.calls.proofs.Unsound.{refused-unsound}
 use Rattle.feed.specs.declared.events.Event.the-variants as E
+use Rattle.feed.specs.declared.events.Step.{Step}
 use Rattle.feed.specs.declared.taking.Placed.{Placed}
 use Rattle.feed.specs.declared.taking.Taken.{Taken}
 use Rattle.feed.specs.declared.taking.Taken.the-variants as taken
 use Rattle.feed.specs.Feed.{distance, after, Numbered, bodyIn, takenAsked, takenFramed, takenAt, still, onward, actOn, turnOn, takenOn, stepOn}
+use Rattle.feed.specs.Code.{testedFirst}
 
 -- ---- numbers that go round
 pub distance-is : (q e d : ℕ) → q < 2 ^ 32 → e < 2 ^ 32 → d < 2 ^ 32 → (d + e) % 2 ^ 32 ≡ q → d ≡ distance q e
@@ -49,15 +54,27 @@ module _ (sp : Spare) (n : ℕ) (x : Numbered) (d : ℕ) (e : d ≡ distance (x 
   unfolding turnOn
   turn-repeat h k = sym (cond-false _ _ _ (ne-eqb _ _ (λ z. h (e ∙ z))) ∙ cond-false _ _ _ (lt-leb (distance (x .number) (sp .expected)) _ (omega arith)))
 
--- ---- v is what the test of the spare's state answered
-module _ (sp : Spare) (s : List ℕ) (at : ℕ) (v : Verdict) (e : v ≡ brokenRule (sp .state)) where
-  pub step-broken : (n : ℕ) → v ≡ Broken n → still sp (E.UnsoundState n) 0 at ≡ stepOn sp s at
-  unfolding stepOn
-  step-broken n h = on-broken _ _ _ v n e h
+-- ---- 12 before a step
+module _ (sp : Spare) (at : ℕ) (st : Step) where
+  -- v is what the test of the spare's state answered
+  module _ (v : Verdict) (e : v ≡ brokenRule (sp .state)) where
+    pub tested-broken : (n : ℕ) → v ≡ Broken n → still sp (E.UnsoundState n) 0 at ≡ testedFirst sp at st
+    tested-broken n h = on-broken _ _ _ v n e h
 
-  pub step-taken : v ≡ Sound → (t : Taken) → t ≡ takenAt s at → takenOn sp s at t ≡ stepOn sp s at
-  unfolding stepOn
-  step-taken h t g = ap (takenOn sp s at) g ∙ on-sound _ _ _ v e h
+    pub tested-sound : v ≡ Sound → st ≡ testedFirst sp at st
+    tested-sound h = on-sound _ _ _ v e h
+
+  -- an operation that was not refused by 12 was asked of a sound state
+  pub tested-there : (r : Request) (ws : List ℕ) (k : ℕ) → k ≡ outcomePaper (performOn (sp .state) r ws .outcome) .number → (k ≡ 12 → ⊥) → st ≡ testedFirst sp at st
+  tested-there r ws k q h = go (brokenRule (sp .state)) refl
+    where
+      go : (v : Verdict) → v ≡ brokenRule (sp .state) → st ≡ testedFirst sp at st
+      go Sound e = tested-sound Sound e refl
+      go (Broken n) e = absurd (h (q ∙ refused-unsound (sp .state) n (sym e) r ws))
+
+pub step-taken : (sp : Spare) (s : List ℕ) (at : ℕ) (t : Taken) → t ≡ takenAt s at → testedFirst sp at (takenOn sp s at t) ≡ stepOn sp s at
+unfolding stepOn
+step-taken sp s at t g = ap (λ (x : Taken). testedFirst sp at (takenOn sp s at x)) g
 
 -- ---- a record that was taken: its frame is the one at the place
 module _ (s : List ℕ) (at : ℕ) where

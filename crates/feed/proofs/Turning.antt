@@ -20,10 +20,11 @@ use Rattle.feed.specs.declared.events.Event.{Event}
 use Rattle.feed.specs.declared.events.Event.the-variants as E
 use Rattle.feed.specs.declared.events.Step.{Step}
 use Rattle.feed.specs.declared.taking.Placed.{Placed}
+use Rattle.feed.specs.declared.taking.Taken.{Taken}
 use Rattle.feed.specs.declared.taking.Taken.the-variants as taken
-use Rattle.feed.specs.Feed.{distance, after, Numbered, numbered, bodyIn, takenAt, still, actOn, turnOn, takenOn, stepOn}
+use Rattle.feed.specs.Feed.{distance, after, Numbered, numbered, bodyIn, takenAt, still, actOn, turnOn, takenOn, stepOn, isUnsound}
 use Rattle.feed.specs.Runs.{stops}
-use Rattle.feed.proofs.Stepping.{step-broken, step-taken}
+use Rattle.feed.proofs.Stepping.{tested-broken, tested-sound, step-taken}
 
 -- ---- numbers that go round: only the expected one is at distance 0
 pub distance-zero : (q e : ℕ) → q < 2 ^ 32 → e < 2 ^ 32 → distance q e ≡ 0 → q ≡ e
@@ -61,10 +62,35 @@ module _ (sp : Spare) (n : ℕ) (x : Numbered) where
   unfolding actOn
   turn-goes = turn-comes (λ (y : Step). stops (y .told .event) ≡ false) (λ z. refl) (λ e g. g)
 
+-- an event that doesn't end a run isn't 12
+goes-sound : (e : Event) → stops e ≡ false → isUnsound e ≡ false
+unfolding isUnsound
+goes-sound (E.UnsoundState n) g = g
+goes-sound (E.Torn x) g = refl
+goes-sound (E.BadKind x) g = refl
+goes-sound (E.BadField x) g = refl
+goes-sound (E.Repeat x) g = refl
+goes-sound (E.Ahead x) g = refl
+goes-sound (E.Applied o) g = refl
+
 -- ---- a step over any bytes
 module _ (sp : Spare) (s : List ℕ) (at : ℕ) where
+  taken-sound : (t : Taken) → isUnsound (takenOn sp s at t .told .event) ≡ false
+  unfolding isUnsound
+  taken-sound (taken.Torn x) = refl
+  taken-sound (taken.BadKind x) = refl
+  taken-sound (taken.BadField x) = refl
+  taken-sound (taken.Record p) = goes-sound (turnOn sp (p .frame .next) (numbered p (bodyIn s (p .frame))) .told .event) (turn-goes sp (p .frame .next) (numbered p (bodyIn s (p .frame))))
+
   pub step-sound : brokenRule (sp .state) ≡ Sound → stepOn sp s at ≡ takenOn sp s at (takenAt s at)
-  step-sound e = sym (step-taken sp s at Sound (sym e) refl (takenAt s at) refl)
+  step-sound e = sym (tested-sound sp at (takenOn sp s at (takenAt s at)) Sound (sym e) refl ∙ step-taken sp s at (takenAt s at) refl)
+
+  -- 12 is told of an unsound state alone
+  pub sound-told : brokenRule (sp .state) ≡ Sound → isUnsound (stepOn sp s at .told .event) ≡ false
+  sound-told e = ap (λ (x : Step). isUnsound (x .told .event)) (step-sound e) ∙ taken-sound (takenAt s at)
+
+  pub step-unsound : (n : ℕ) → brokenRule (sp .state) ≡ Broken n → stepOn sp s at ≡ still sp (E.UnsoundState n) 0 at
+  step-unsound n e = sym (tested-broken sp at (takenOn sp s at (takenAt s at)) (Broken n) (sym e) n refl ∙ step-taken sp s at (takenAt s at) refl)
 
   -- what holds of 12, and on a sound spare of what can be read, holds of the step
   pub step-comes : (P : Step → Type 0) → ((n : ℕ) → P (still sp (E.UnsoundState n) 0 at)) → (brokenRule (sp .state) ≡ Sound → P (takenOn sp s at (takenAt s at))) → P (stepOn sp s at)
@@ -72,7 +98,7 @@ module _ (sp : Spare) (s : List ℕ) (at : ℕ) where
     where
       go : (v : Verdict) → brokenRule (sp .state) ≡ v → P (stepOn sp s at)
       go Sound e = subst P (sym (step-sound e)) (g e)
-      go (Broken n) e = subst P (step-broken sp s at (Broken n) (sym e) n refl) (f n)
+      go (Broken n) e = subst P (sym (step-unsound n e)) (f n)
 
 -- ---- a record that can be read at a place of the feed
 module _ (sp : Spare) (s : List ℕ) (at : ℕ) (e : brokenRule (sp .state) ≡ Sound) (p : Placed) (g : takenAt s at ≡ taken.Record p) where

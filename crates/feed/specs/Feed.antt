@@ -146,3 +146,13 @@ isApplied (E.BadField at) = false
 isApplied (E.Repeat e) = false
 isApplied (E.Ahead e) = false
 isApplied (E.Applied o) = true
+
+-- the spare's state is unsound
+unfoldable pub isUnsound : Event → Bool
+isUnsound (E.UnsoundState n) = true
+isUnsound (E.Torn at) = false
+isUnsound (E.BadKind at) = false
+isUnsound (E.BadField at) = false
+isUnsound (E.Repeat e) = false
+isUnsound (E.Ahead e) = false
+isUnsound (E.Applied o) = false

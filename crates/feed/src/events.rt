@@ -8,7 +8,7 @@ use image::Spare;
 use state::ActiveLock;
 use state::LockState;
 ghost use mathlib.Core.Path.{_≡_};
-ghost use Rattle.feed.specs.Feed.{plain, still, onward, isApplied};
+ghost use Rattle.feed.specs.Feed.{plain, still, onward, isApplied, isUnsound};
 ghost use Rattle.feed.specs.Runs.{stops};
 
 // All but the last leave the spare as it is: 12, 17 to 19 with the record's offset, 15 and 16 with the expected number.
@@ -95,6 +95,17 @@ pub fn is_applied(event: Event) -> bool
     ensures { λ r. ⌜ r ≡ isApplied event ⌝ }
 {
     if let Event::Applied(_) = event {
+        true
+    } else {
+        false
+    }
+}
+
+// Whether the spare's state is unsound: 12.
+pub fn is_unsound(event: Event) -> bool
+    ensures { λ r. ⌜ r ≡ isUnsound event ⌝ }
+{
+    if let Event::UnsoundState(_) = event {
         true
     } else {
         false

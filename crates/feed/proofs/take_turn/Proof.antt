@@ -1,6 +1,8 @@
-use mathlib.Core.Path.{_∙_}
+use mathlib.Core.Path.{ap, _∙_}
 use denote.Ref.{now}
+use Rattle.feed.specs.declared.events.Step.{Step}
 use Rattle.feed.specs.Feed.{numbered}
+use Rattle.feed.specs.Code.{testedFirst}
 use Rattle.feed.proofs.Stepping.{turn-now, turn-ahead, turn-repeat}
 use borrow.Author.Needs.{needs}
 use Rattle.feed.proofs.take_turn.Statement.{statement}
@@ -8,8 +10,8 @@ use Rattle.feed.proofs.take_turn.Tie as tie
 use Rattle.feed.proofs.take_turn.Reads as reads
 use Rattle.feed.proofs.take_turn.Lts as lts
 use Rattle.feed.proofs.apply.Reads as apply-reads
-use Rattle.feed.proofs.events.still.Reads as still-reads
 use Rattle.feed.proofs.turns.distance.Reads as distance-reads
+use Rattle.feed.proofs.wait.Reads as wait-reads
 
 distance-requires : tie.Need-distance-requires
 distance-requires c κs = search needs
@@ -20,23 +22,23 @@ apply-requires c κs = search needs
 returns : tie.Need-returns
 returns c =
     let a = c .before .before .before .before .before .args in
-    c .apply .ensures ∙ turn-now (a .spare) (a .placed .frame .next) (numbered (a .placed) (now (a .body))) _ (c .before .before .distance .ensures) (c .before .if1 .taken)
+    c .apply .ensures ∙ ap (λ (s : Step). testedFirst (a .spare) (a .at) s) (turn-now (a .spare) (a .placed .frame .next) (numbered (a .placed) (now (a .body))) _ (c .before .before .distance .ensures) (c .before .if1 .taken))
 
-still-requires : tie.Need-still-requires
-still-requires c κs = search needs
+wait-requires : tie.Need-wait-requires
+wait-requires c κs = search needs
 
 returns-2 : tie.Need-returns-2
 returns-2 c =
     let a = c .before .before .before .before .before .before .args in
-    c .still .ensures ∙ turn-ahead (a .spare) (a .placed .frame .next) (numbered (a .placed) (now (a .body))) _ (c .before .before .before .distance .ensures) (c .before .before .if1 .left) (c .before .if2 .taken)
+    c .wait .ensures ∙ ap (λ (s : Step). testedFirst (a .spare) (a .at) s) (turn-ahead (a .spare) (a .placed .frame .next) (numbered (a .placed) (now (a .body))) _ (c .before .before .before .distance .ensures) (c .before .before .if1 .left) (c .before .if2 .taken))
 
-still-requires-2 : tie.Need-still-requires-2
-still-requires-2 c κs = search needs
+wait-requires-2 : tie.Need-wait-requires-2
+wait-requires-2 c κs = search needs
 
 returns-3 : tie.Need-returns-3
 returns-3 c =
     let a = c .before .before .before .before .before .before .args in
-    c .still2 .ensures ∙ turn-repeat (a .spare) (a .placed .frame .next) (numbered (a .placed) (now (a .body))) _ (c .before .before .before .distance .ensures) (c .before .before .if1 .left) (c .before .if2 .left)
+    c .wait2 .ensures ∙ ap (λ (s : Step). testedFirst (a .spare) (a .at) s) (turn-repeat (a .spare) (a .placed .frame .next) (numbered (a .placed) (now (a .body))) _ (c .before .before .before .distance .ensures) (c .before .before .if1 .left) (c .before .if2 .left))
 
 pub take-turn-spec : {M : Type 1} → statement M
 take-turn-spec =
@@ -45,7 +47,7 @@ take-turn-spec =
     distance-requires
     apply-requires
     returns
-    still-requires
+    wait-requires
     returns-2
-    still-requires-2
+    wait-requires-2
     returns-3)
