@@ -15,16 +15,19 @@ use Rattle.locks.specs.Locks.{droppingPaper}
 use Rattle.records.specs.Numbers.{stored}
 use Rattle.records.specs.Wire.{idBytes}
 use Rattle.records.proofs.Runs.{length-all, length-id}
-use Rattle.image.specs.declared.Writing.{Writing}
-use Rattle.image.specs.Image.{activeList, Written, done, writeOn}
+use Rattle.image.specs.Image.{activeList}
 use Rattle.image.proofs.Writes.{length-run, active-plain}
 use Rattle.image.proofs.Stores.{Capped}
 use Rattle.feed.specs.declared.events.Step.{Step}
-use Rattle.feed.specs.Feed.{eventPaper, isApplied}
+use Rattle.feed.specs.declared.following.Run.{Run}
+use Rattle.feed.specs.Feed.{eventPaper, isApplied, isUnsound}
 use Rattle.cablegorse.specs.declared.Told.{Told}
 use Rattle.cablegorse.specs.declared.Applied.{Applied}
+use Rattle.cablegorse.specs.declared.Followed.{Followed}
 use Rattle.cablegorse.specs.Telling.{toldOf}
-use Rattle.cablegorse.specs.Changes.{applied, still, shortTold, sizeOf, writtenOf, changed, removedBytes, expiredBytes, anyShort, shortPut, wholePut, stepPut, left, isGone, spareAfter, dropPut}
+use Rattle.cablegorse.specs.Changes.{applied, still, shortTold, imageBytes, sizeOf, changed, removedBytes, expiredBytes, anyShort, shortPut, wholePut, stepPut, left, isGone, spareAfter, dropPut}
+use Rattle.cablegorse.specs.Code.{stepShown}
+use Rattle.cablegorse.specs.Chunks.{followed, stopTold, stopPart, chunked, runPut}
 
 -- ---- a record of a feed
 module _ (at : ℕ) (st : Step) (n m x : List ℕ) (t : Told) (et : t ≡ toldOf (eventPaper (st .told .event))) (b : Bool) (eb : b ≡ isApplied (st .told .event)) where
@@ -65,25 +68,35 @@ module _ (at : ℕ) (st : Step) (n m x : List ℕ) (t : Told) (et : t ≡ toldOf
         ∙ sym (cond-true _ _ _ (sym short-test ∙ k))
         ∙ applies
 
-    pub all-put : ((ltb (length n) a || ltb (length m) (g * 91)) || ltb (length x) (l * 16)) ≡ false → (w : Writing) (n′ m′ x′ : List ℕ) → done w n′ ≡ writeOn (st .spare) n → m′ ≡ stored m 0 (removedBytes (st .told)) → x′ ≡ stored x 0 (expiredBytes (st .told)) → (k : ℕ) → k ≡ writtenOf w → (r : Applied) → r ≡ applied t 2 (st .told .sequence) (st .told .next) k g l → changed r n′ m′ x′ ≡ stepPut at st n m x
-    all-put f w n′ m′ x′ ew em ex k ek r er =
+    pub all-put : ((ltb (length n) a || ltb (length m) (g * 91)) || ltb (length x) (l * 16)) ≡ false → (n′ m′ x′ : List ℕ) → n′ ≡ stored n 0 (imageBytes (st .spare)) → m′ ≡ stored m 0 (removedBytes (st .told)) → x′ ≡ stored x 0 (expiredBytes (st .told)) → (r : Applied) → r ≡ applied t 2 (st .told .sequence) (st .told .next) a g l → changed r n′ m′ x′ ≡ stepPut at st n m x
+    all-put f n′ m′ x′ en em ex r er =
         let o : Told = toldOf (eventPaper (st .told .event)) in
         let sq : ℕ = st .told .sequence in
         let nx : ℕ = st .told .next in
-        let wr : ℕ = writtenOf (writeOn (st .spare) n .told) in
+        let sz : ℕ = sizeOf (st .spare) in
         let gn : ℕ = length (take (st .told .gone) (st .told .removed)) in
         let lp : ℕ = length (take (st .told .lapsed) (st .told .ids)) in
-        let e : r ≡ applied o 2 sq nx wr gn lp =
-        er ∙ ap (λ (y : Told). applied y 2 sq nx k g l) et
-        ∙ ap (λ (y : ℕ). applied o 2 sq nx y g l) (ek ∙ ap (λ (d : Written). writtenOf (d .told)) ew)
-        ∙ ap (λ (y : ℕ). applied o 2 sq nx wr y l) (sym (eg .count))
-        ∙ ap (λ (y : ℕ). applied o 2 sq nx wr gn y) (sym (el .count)) in
+        let e : r ≡ applied o 2 sq nx sz gn lp =
+        er ∙ ap (λ (y : Told). applied y 2 sq nx a g l) et
+        ∙ ap (λ (y : ℕ). applied o 2 sq nx y g l) ea
+        ∙ ap (λ (y : ℕ). applied o 2 sq nx sz y l) (sym (eg .count))
+        ∙ ap (λ (y : ℕ). applied o 2 sq nx sz gn y) (sym (el .count)) in
         ap (λ (y : Applied). changed y n′ m′ x′) e
-        ∙ ap (λ (y : List ℕ). changed (applied o 2 sq nx wr gn lp) y m′ x′) (ap (λ (d : Written). d .out) ew)
-        ∙ ap (λ (y : List ℕ). changed (applied o 2 sq nx wr gn lp) (writeOn (st .spare) n .out) y x′) em
-        ∙ ap (λ (y : List ℕ). changed (applied o 2 sq nx wr gn lp) (writeOn (st .spare) n .out) (stored m 0 (removedBytes (st .told))) y) ex
+        ∙ ap (λ (y : List ℕ). changed (applied o 2 sq nx sz gn lp) y m′ x′) en
+        ∙ ap (λ (y : List ℕ). changed (applied o 2 sq nx sz gn lp) (stored n 0 (imageBytes (st .spare))) y x′) em
+        ∙ ap (λ (y : List ℕ). changed (applied o 2 sq nx sz gn lp) (stored n 0 (imageBytes (st .spare))) (stored m 0 (removedBytes (st .told))) y) ex
         ∙ sym (cond-false _ _ _ (sym short-test ∙ f))
         ∙ applies
+
+-- ---- 12 is the image's refusal
+module _ (at : ℕ) (st : Step) (n m x : List ℕ) (b : Bool) (eb : b ≡ isUnsound (st .told .event)) where
+  pub shown-unsound : b ≡ true → (t : Told) → t ≡ toldOf (eventPaper (st .told .event)) → (r : Applied) → r ≡ still t 0 0 at → changed r n m x ≡ stepShown at st n m x
+  unfolding stepShown
+  shown-unsound h t et r er = ap (λ (y : Applied). changed y n m x) (er ∙ ap (λ (y : Told). still y 0 0 at) et) ∙ sym (cond-true _ _ _ (sym eb ∙ h))
+
+  pub shown-put : b ≡ false → stepPut at st n m x ≡ stepShown at st n m x
+  unfolding stepShown
+  shown-put h = sym (cond-false _ _ _ (sym eb ∙ h))
 
 -- ---- a deletion of a defunct entry
 module _ (e : ℕ) (d : Dropped) (n : List ℕ) (t : Told) (et : t ≡ toldOf (droppingPaper (d .told))) (b : Bool) (eb : b ≡ isGone (d .told)) where
@@ -99,11 +112,31 @@ module _ (e : ℕ) (d : Dropped) (n : List ℕ) (t : Told) (et : t ≡ toldOf (d
         ∙ sym (cond-true _ _ _ (lt-ltb (length n) (sizeOf (spareAfter e d)) (omega arith)))
         ∙ sym (cond-true _ _ _ (sym eb ∙ not-false b h))
 
-    pub next-put : a ≤ length n → (w : Writing) (n′ : List ℕ) → done w n′ ≡ writeOn (spareAfter e d) n → (k : ℕ) → k ≡ writtenOf w → (r : Applied) → r ≡ applied t 2 0 0 k 0 0 → left r n′ ≡ dropPut e d n
+    pub next-put : a ≤ length n → (n′ : List ℕ) → n′ ≡ stored n 0 (imageBytes (spareAfter e d)) → (r : Applied) → r ≡ applied t 2 0 0 a 0 0 → left r n′ ≡ dropPut e d n
     unfolding dropPut
-    next-put f w n′ ew k ek r er =
+    next-put f n′ en r er =
         let o : Told = toldOf (droppingPaper (d .told)) in
-        ap (λ (y : Applied). left y n′) (er ∙ ap (λ (y : Told). applied y 2 0 0 k 0 0) et ∙ ap (λ (y : ℕ). applied o 2 0 0 y 0 0) (ek ∙ ap (λ (u : Written). writtenOf (u .told)) ew))
-        ∙ ap (λ (y : List ℕ). left (applied o 2 0 0 (writtenOf (writeOn (spareAfter e d) n .told)) 0 0) y) (ap (λ (u : Written). u .out) ew)
+        ap (λ (y : Applied). left y n′) (er ∙ ap (λ (y : Told). applied y 2 0 0 a 0 0) et ∙ ap (λ (y : ℕ). applied o 2 0 0 y 0 0) ea)
+        ∙ ap (λ (y : List ℕ). left (applied o 2 0 0 (sizeOf (spareAfter e d)) 0 0) y) en
         ∙ sym (cond-false _ _ _ (le-ltb (length n) (sizeOf (spareAfter e d)) (omega arith)))
         ∙ sym (cond-true _ _ _ (sym eb ∙ not-false b h))
+
+-- ---- a chunk
+module _ (run : Run) (n : List ℕ) (a : ℕ) (ea : a ≡ sizeOf (run .spare)) where
+  pub run-short : length n < a → (s : Told) → s ≡ toldOf (paper 21 (a ∷ [])) → (r : Followed) → r ≡ followed s 3 0 0 0 0 0 → chunked r n ≡ runPut run n
+  unfolding runPut
+  run-short k s es r er =
+      ap (λ (y : Followed). chunked y n) (er ∙ ap (λ (y : Told). followed y 3 0 0 0 0 0) (es ∙ ap (λ (y : ℕ). toldOf (paper 21 (y ∷ []))) ea))
+      ∙ sym (cond-true _ _ _ (lt-ltb (length n) (sizeOf (run .spare)) (omega arith)))
+
+  pub run-put : a ≤ length n → (n′ : List ℕ) → n′ ≡ stored n 0 (imageBytes (run .spare)) → (t : Told) → t ≡ stopTold (run .stop) → (p : ℕ) → p ≡ stopPart (run .stop)
+      → (r : Followed) → r ≡ followed t p (run .spare .expected) (run .place) (run .read) (run .applied) a → chunked r n′ ≡ runPut run n
+  unfolding runPut
+  run-put f n′ en t et p ep r er =
+      let o : Told = stopTold (run .stop) in
+      ap (λ (y : Followed). chunked y n′)
+      (er ∙ ap (λ (y : Told). followed y p (run .spare .expected) (run .place) (run .read) (run .applied) a) et
+      ∙ ap (λ (y : ℕ). followed o y (run .spare .expected) (run .place) (run .read) (run .applied) a) ep
+      ∙ ap (λ (y : ℕ). followed o (stopPart (run .stop)) (run .spare .expected) (run .place) (run .read) (run .applied) y) ea)
+      ∙ ap (λ (y : List ℕ). chunked (followed o (stopPart (run .stop)) (run .spare .expected) (run .place) (run .read) (run .applied) (sizeOf (run .spare))) y) en
+      ∙ sym (cond-false _ _ _ (le-ltb (length n) (sizeOf (run .spare)) (omega arith)))

@@ -17,9 +17,7 @@ use Rattle.locks.specs.Locks.{deleteDefunctOn, droppingPaper}
 use Rattle.records.specs.Numbers.{stored, bytesOfAll}
 use Rattle.records.specs.Wire.{id, idBytes}
 use Rattle.image.specs.declared.Spare.{Spare}
-use Rattle.image.specs.declared.Writing.{Writing}
-use Rattle.image.specs.declared.Writing.the-variants as W
-use Rattle.image.specs.Image.{activeList, bytesOfRun, imageOf, writeOn}
+use Rattle.image.specs.Image.{activeList, bytesOfRun, imageOf}
 use Rattle.feed.specs.declared.events.Told as fed
 use Rattle.feed.specs.declared.events.Step.{Step}
 use Rattle.feed.specs.Feed.{stepOn, eventPaper, isApplied}
@@ -58,13 +56,12 @@ still t part sequence place = applied t part sequence place 0 0 0
 abbrev pub shortTold : ℕ → ℕ → ℕ → Told
 shortTold a b c = toldOf (paper 21 (a ∷ (b ∷ (c ∷ []))))
 
-abbrev pub sizeOf : Spare → ℕ
-sizeOf sp = length (imageOf (modelOf (sp .state)) (sp .expected))
+-- the image of a spare, and its size
+abbrev pub imageBytes : Spare → List ℕ
+imageBytes sp = imageOf (modelOf (sp .state)) (sp .expected)
 
-unfoldable pub writtenOf : Writing → ℕ
-writtenOf (W.Done n) = n
-writtenOf (W.UnsoundState n) = 0
-writtenOf (W.ShortOutput n) = 0
+abbrev pub sizeOf : Spare → ℕ
+sizeOf sp = length (imageBytes sp)
 
 -- ---- a record of a feed
 -- the answer, and the three buffers as the call leaves them
@@ -94,8 +91,8 @@ module _ (at : ℕ) (st : Step) (n m x : List ℕ) where
   abbrev pub wholePut : Changed
   wholePut =
       changed
-      (applied (toldOf (eventPaper (st .told .event))) 2 (st .told .sequence) (st .told .next) (writtenOf (writeOn (st .spare) n .told)) (length (take (st .told .gone) (st .told .removed))) (length (take (st .told .lapsed) (st .told .ids))))
-      (writeOn (st .spare) n .out)
+      (applied (toldOf (eventPaper (st .told .event))) 2 (st .told .sequence) (st .told .next) (sizeOf (st .spare)) (length (take (st .told .gone) (st .told .removed))) (length (take (st .told .lapsed) (st .told .ids))))
+      (stored n 0 (imageBytes (st .spare)))
       (stored m 0 (removedBytes (st .told)))
       (stored x 0 (expiredBytes (st .told)))
 
@@ -132,7 +129,7 @@ dropPut e d n =
     cond (isGone (d .told))
     (cond (ltb (length n) (sizeOf (spareAfter e d)))
     (left (still (shortTold (sizeOf (spareAfter e d)) 0 0) 3 0 0) n)
-    (left (applied (toldOf (droppingPaper (d .told))) 2 0 0 (writtenOf (writeOn (spareAfter e d) n .told)) 0 0) (writeOn (spareAfter e d) n .out)))
+    (left (applied (toldOf (droppingPaper (d .told))) 2 0 0 (sizeOf (spareAfter e d)) 0 0) (stored n 0 (imageBytes (spareAfter e d)))))
     (left (still (toldOf (droppingPaper (d .told))) 2 0 0) n)
 
 -- 19 for a scope that there is not

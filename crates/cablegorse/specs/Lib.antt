@@ -3,3 +3,5 @@ pub mod Boundary
 pub mod Questions
 pub mod Replies
 pub mod Changes
+pub mod Code
+pub mod Chunks

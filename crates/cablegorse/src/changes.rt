@@ -9,14 +9,14 @@ use crate::putting;
 use feed::events::Step;
 use ids::LockId;
 use image::Spare;
-use image::Writing;
 use image::read;
 use image::write;
 use locks::Dropped;
 use records::layout;
 use state::LockState;
 ghost use mathlib.Core.Path.{_≡_};
-ghost use Rattle.cablegorse.specs.Changes.{applied, still, writtenOf, changed, stepPut, applyOf, left, dropPut, deleteOf};
+ghost use Rattle.cablegorse.specs.Changes.{applied, still, changed, applyOf, left, dropPut, deleteOf};
+ghost use Rattle.cablegorse.specs.Code.{stepShown};
 
 fn applied(
     t: Told,
@@ -53,23 +53,16 @@ fn still(t: Told, part: u32, sequence: u32, place: u64) -> Applied
     applied(t, part, sequence, place, 0, 0, 0)
 }
 
-fn written_of(w: Writing) -> u64
-    ensures { λ r. ⌜ r ≡ writtenOf w ⌝ }
-{
-    match w {
-        Writing::Done(n) => n as u64,
-        Writing::UnsoundState(_) => 0,
-        Writing::ShortOutput(_) => 0,
-    }
-}
-
-// All three outputs or none.
+// All three outputs or none. 12 is the image's refusal: the step is where its state is tested.
 fn put_step(s: Step, at: usize, next: &mut [u8], removed: &mut [u8], expired: &mut [u8]) -> Applied
-    ensures { λ r. ⌜ changed r (now (next .exit)) (now (removed .exit)) (now (expired .exit)) ≡ stepPut at s (now (next .entry)) (now (removed .entry)) (now (expired .entry)) ⌝ }
+    ensures { λ r. ⌜ changed r (now (next .exit)) (now (removed .exit)) (now (expired .exit)) ≡ stepShown at s (now (next .entry)) (now (removed .entry)) (now (expired .entry)) ⌝ }
 {
     let told = s.told;
     let event = told.event;
     let t = crate::events::of_event(event);
+    if feed::events::is_unsound(event) {
+        return still(t, 0, 0, at as u64);
+    }
     if !feed::events::is_applied(event) {
         return still(t, 1, told.sequence, told.next as u64);
     }
@@ -89,18 +82,17 @@ fn put_step(s: Step, at: usize, next: &mut [u8], removed: &mut [u8], expired: &m
         );
         return still(short, 3, told.sequence, at as u64);
     }
-    let w = write::write_image(spare, next);
+    write::store_image(spare, next);
     let locks = told.removed;
     write::store_actives(removed, locks, told.gone);
     let ids = told.ids;
     putting::store_expired(expired, ids, told.lapsed);
-    let n = written_of(w);
     applied(
         t,
         2,
         told.sequence,
         told.next as u64,
-        n,
+        size as u64,
         gone as u64,
         lapsed as u64,
     )
@@ -118,7 +110,7 @@ pub extern "C" fn cablegorse_apply(
 ) -> Applied
     ensures { λ r. ⌜ changed r (now (next .exit)) (now (removed .exit)) (now (expired .exit)) ≡ applyOf (now (image .entry)) (now (stream .entry)) at (now (next .entry)) (now (removed .entry)) (now (expired .entry)) ⌝ }
 {
-    let i = read::read_image(image);
+    let i = read::read_records(image);
     let why = i.told;
     let t = papers::of_reading(why);
     if t.number != 0 {
@@ -145,9 +137,8 @@ fn put_dropped(d: Dropped, expected: u32, next: &mut [u8]) -> Applied
         let short = papers::three(21, size as u64, 0, 0);
         return still(short, 3, 0, 0);
     }
-    let w = write::write_image(spare, next);
-    let n = written_of(w);
-    applied(t, 2, 0, 0, n, 0, 0)
+    write::store_image(spare, next);
+    applied(t, 2, 0, 0, size as u64, 0, 0)
 }
 
 // A defunct entry deleted, which no record of a feed asks for.

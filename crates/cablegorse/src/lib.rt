@@ -6,6 +6,7 @@ ghost use Rattle.cablegorse.specs.Boundary.{classOf, testOf, prepareOf};
 
 mod arguments;
 pub mod changes;
+pub mod chunks;
 mod events;
 mod papers;
 mod putting;
@@ -43,6 +44,26 @@ pub struct Applied {
     pub written: u64,
     pub gone: u64,
     pub lapsed: u64,
+}
+
+// As Told, what ended the run over a chunk, and: part 0 the image was refused, 1 a record can't be read, 2 the chunk ended, 3 the
+// output is too short; the number that is due next; the place after the last record that was read; how many were read, and how
+// many of them applied; the bytes of the next image.
+#[repr(C)]
+pub struct Followed {
+    pub number: u32,
+    pub count: u32,
+    pub v0: u64,
+    pub v1: u64,
+    pub v2: u64,
+    pub v3: u64,
+    pub v4: u64,
+    pub part: u32,
+    pub expected: u32,
+    pub place: u64,
+    pub read: u64,
+    pub applied: u64,
+    pub written: u64,
 }
 
 // The response class of a refusal number: 0 none, 1 BadRequest, 2 Conflict, 3 InternalServerError, 4 Forbidden.

@@ -1,40 +1,41 @@
--- The library's door, over what its calls are proved to answer (`applyOf`, `deleteOf`):
+-- The library's door, over what its calls are proved to answer (`applyOf`, `deleteOf`, `followOf`):
 --     apply-door    where part is 2, the bytes written are not none and read back as exactly the spare that the step leaves;
 --                   in every other part every byte of every buffer stays
 --     chain-run     record after record, image to image, is the feed's run on the spare
 --     delete-door   the same of cablegorse_delete_defunct
+--     follow-door   the same of cablegorse_follow: its image is the plain run's over the chunk
+--     same-bytes    what is written without a test is what the tested writer writes
 -- Assumes nothing.
 use mathlib.Core.Path.{_≡_, refl, sym, ap, _∙_, subst}
-use mathlib.Core.Bool.{Bool, true, false, cond, false≢true}
-use mathlib.Core.List.{List, [], _∷_, _++_}
+use mathlib.Core.Bool.{Bool, true, false, false≢true}
+use mathlib.Core.List.{List}
 use mathlib.Core.Logic.{_⊎_, inl, inr, ⊎-elim}
-use Prim.Native.Nat.{ℕ, zero, suc, _+_, _*_, _≤_, _<_}
+use Prim.Native.Nat.{ℕ, zero, suc}
 use native.Mathlib.Omega.{arith}
-use lib.ListN.{length, take, drop}
+use lib.ListN.{length, take}
 use lib.Dec.{eqb, ltb}
-use borrow.Author.Tests.{eqb-true}
-use Rattle.lists.specs.Tests.{_or_, Yes, No}
-use Rattle.lists.proofs.Tests.{cond-both, cond-true, cond-false, against, by, or-l, →no}
+use borrow.Author.Tests.{eqb-true, ltb-false}
+use Rattle.lists.specs.Tests.{_or_, No}
+use Rattle.lists.proofs.Tests.{cond-both}
 use Rattle.ids.specs.declared.LockId.{LockId}
 use Rattle.state.specs.declared.ScopeKey.{ScopeKey}
 use Rattle.state.specs.Model.{modelOf}
-use Rattle.rules.specs.declared.Verdict.{Verdict}
 use Rattle.rules.specs.declared.Verdict.the-variants.{Sound}
 use Rattle.rules.specs.Rules.{brokenRule}
 use Rattle.locks.specs.declared.Dropped.{Dropped}
 use Rattle.locks.specs.Locks.{deleteDefunctOn}
 use Rattle.promises.specs.Steps.{acknowledge, stepOn as directOn}
 use Rattle.promises.proofs.Dropping.{drop-comes, delete-defunct-accepted}
+use Rattle.records.specs.Numbers.{stored}
 use Rattle.records.specs.Wire.{id}
 use Rattle.image.specs.declared.Spare.{Spare}
 use Rattle.image.specs.declared.Imaged.{Imaged}
-use Rattle.image.specs.declared.Reading.{Reading}
 use Rattle.image.specs.declared.Reading.the-variants as reading
 use Rattle.image.specs.declared.Writing.the-variants as W
-use Rattle.image.specs.Image.{readOn, imageOf, Written, done, fitted, writtenBy, writeOn, readingPaper}
+use Rattle.image.specs.Image.{readOn, done, writeOn}
 use Rattle.image.specs.Ranges.{InTypes}
 use Rattle.image.proofs.Trips.{Accepted, accepted, read-what-was-written}
-use Rattle.image.proofs.Writes.{length-image}
+use Rattle.image.proofs.Writes.{length-image, sound-stored}
 use Rattle.records.proofs.Numbers.{Bytes}
 use Rattle.feed.specs.declared.events.Event.{Event}
 use Rattle.feed.specs.declared.events.Event.the-variants as E
@@ -42,9 +43,10 @@ use Rattle.feed.specs.declared.events.Step.{Step}
 use Rattle.feed.specs.declared.taking.Taken.{Taken}
 use Rattle.feed.specs.declared.taking.Taken.the-variants as taking
 use Rattle.feed.specs.Feed.{numbered, bodyIn, takenAt, actOn, takenOn, stepOn, eventPaper, isApplied}
-use Rattle.feed.specs.Runs.{stops, runOn}
+use Rattle.feed.specs.Runs.{stops, runOn, fresh, followOn}
 use Rattle.feed.proofs.Turning.{turn-comes, step-comes}
 use Rattle.feed.proofs.Running.{run-go}
+use Rattle.feed.proofs.Chunks.{follow-runs}
 use Rattle.takeover.proofs.Keeping.{step-keeps}
 use Rattle.cablegorse.specs.declared.Told.{Told}
 use Rattle.cablegorse.specs.Telling.{readingTold}
@@ -52,7 +54,9 @@ use Rattle.cablegorse.specs.Boundary.{onImage}
 use Rattle.cablegorse.specs.declared.arguments.Scoped.{Scoped}
 use Rattle.cablegorse.specs.declared.arguments.Scoped.the-variants as scoped
 use Rattle.cablegorse.specs.Questions.{scopedOf}
-use Rattle.cablegorse.specs.Changes.{Changed, writtenOf, sizeOf, anyShort, stepPut, applyOf, Left, isGone, spareAfter, dropPut, onScopedLeft, deleteOf}
+use Rattle.cablegorse.specs.Changes.{Changed, imageBytes, sizeOf, anyShort, stepPut, applyOf, Left, isGone, spareAfter, dropPut, onScopedLeft, deleteOf}
+use Rattle.cablegorse.specs.Chunks.{Chunked, runPut, followOf}
+use Rattle.cablegorse.proofs.Images.{done-told}
 use Rattle.doors.specs.Chains.{Chain, ended, applied, passed, calls}
 use Rattle.doors.proofs.Typed.{accepted-typed, direct-typed, step-typed}
 
@@ -60,15 +64,6 @@ abbrev reads : List ℕ → Spare → Type 0
 reads s sp = readOn s ≡ record { told = reading.Done; spare = sp }
 
 -- ---- an image that is read
-done-told : (t : Reading) → readingTold t .number ≡ 0 → t ≡ reading.Done
-unfolding readingTold readingPaper
-done-told reading.Done e = refl
-done-told (reading.Torn x) e = absurd (omega (arith, e))
-done-told (reading.BadKind x) e = absurd (omega (arith, e))
-done-told (reading.BadField x) e = absurd (omega (arith, e))
-done-told (reading.BadOrder x) e = absurd (omega (arith, e))
-done-told (reading.UnsoundState x) e = absurd (omega (arith, e))
-
 -- what holds of both ends holds of the call
 image-comes : {A : Type 0} (P : A → Type 0) (s : List ℕ) (refused : Told → A) (go : Spare → A) → ((t : Told) → P (refused t)) → ((sp : Spare) → reads s sp → P (go sp)) → P (onImage s refused go)
 unfolding onImage
@@ -79,20 +74,15 @@ image-comes P s refused go f g =
 
 -- ---- a spare within the types, written where it has room
 module _ (sp : Spare) (r : InTypes sp) (e : brokenRule (sp .state) ≡ Sound) (n : List ℕ) (room : No (ltb (length n) (sizeOf sp))) where
-  abbrev b : List ℕ
-  b = imageOf (modelOf (sp .state)) (sp .expected)
+  -- the bytes written without a test are those that the tested writer writes
+  pub same-bytes : writeOn sp n ≡ done (W.Done (sizeOf sp)) (stored n 0 (imageBytes sp))
+  same-bytes = sound-stored sp n e (ltb-false (length n) (sizeOf sp) room)
 
-  put : writeOn sp n ≡ done (W.Done (length b)) (b ++ drop (length b) n)
-  unfolding writeOn
-  put = ap (λ (v : Verdict). writtenBy v b n) e ∙ cond-false _ _ _ room
+  some-bytes : sizeOf sp ≡ 0 → ⊥
+  some-bytes z = omega (arith, length-image (modelOf (sp .state)) (sp .expected), z)
 
-  some-bytes : writtenOf (writeOn sp n .told) ≡ 0 → ⊥
-  unfolding writtenOf
-  some-bytes z = let q = ap (λ (w : Written). writtenOf (w .told)) put in omega (arith, length-image (modelOf (sp .state)) (sp .expected), q, z)
-
-  read-back : reads (take (writtenOf (writeOn sp n .told)) (writeOn sp n .out)) sp
-  unfolding writtenOf
-  read-back = subst (λ (w : Written). reads (take (writtenOf (w .told)) (w .out)) sp) (sym put) (read-what-was-written sp r n (b ++ drop (length b) n) (length b) put)
+  read-back : reads (take (sizeOf sp) (stored n 0 (imageBytes sp))) sp
+  read-back = read-what-was-written sp r n (stored n 0 (imageBytes sp)) (sizeOf sp) same-bytes
 
 -- ---- a record
 -- what the call shows: the image refused or an output too short, and every byte kept; no operation reached, and every byte
@@ -247,3 +237,32 @@ unfolding deleteOf
 delete-door s y hi lo kind number subject n =
     image-comes (Deleted s (id hi lo) subject n) s _ _ (λ t. kept refl refl)
     (λ sp e. scoped-door s (id hi lo) subject n (λ z ez. accepted-typed s y z ez) sp e (scopedOf kind number))
+
+-- ---- cablegorse_follow: nothing written and every byte kept, or the image of the plain run over the chunk, which is what a chain
+-- of calls over its records comes to (chain-run)
+pub run-kept : (f : List ℕ) → Bytes f → (k : ℕ) (sp : Spare) (at : ℕ) → InTypes sp → brokenRule (sp .state) ≡ Sound → InTypes (runOn k sp f at) × (brokenRule (runOn k sp f at .state) ≡ Sound)
+unfolding runOn
+run-kept f y zero sp at r q = (r, q)
+run-kept f y (suc k) sp at r q =
+    cond-both (λ (z : Spare). InTypes z × (brokenRule (z .state) ≡ Sound)) _ _ (stops (stepOn sp f at .told .event)) (λ t. (r, q))
+    (λ t. run-kept f y k (stepOn sp f at .spare) (stepOn sp f at .told .next) (step-typed sp r q f y at) (step-keeps sp f at q))
+
+module _ (s f n : List ℕ) where
+  pub data Chunk (c : Chunked) : Type 0 where
+    kept : c .told .written ≡ 0 → c .next ≡ n → Chunk c
+    wrote : (sp : Spare) → reads s sp → (c .told .written ≡ 0 → ⊥) → reads (take (c .told .written) (c .next)) (runOn (length f) sp f 0) → c .told .expected ≡ runOn (length f) sp f 0 .expected → Chunk c
+
+  run-door : Bytes f → (sp : Spare) → reads s sp → InTypes sp → Chunk (runPut (followOn (length f) (fresh sp) f) n)
+  unfolding runPut
+  run-door y sp e r =
+      let run = followOn (length f) (fresh sp) f in
+      let g : run .spare ≡ runOn (length f) sp f 0 = follow-runs (length f) (fresh sp) f in
+      let w = run-kept f y (length f) sp 0 r (accepted s sp e .sound) in
+      let r′ : InTypes (run .spare) = subst InTypes (sym g) (w .0) in
+      let q : brokenRule (run .spare .state) ≡ Sound = subst (λ (z : Spare). brokenRule (z .state) ≡ Sound) (sym g) (w .1) in
+      cond-both Chunk _ _ (ltb (length n) (sizeOf (run .spare))) (λ u. kept refl refl) (λ u.
+      wrote sp e (some-bytes (run .spare) r′ q n u) (subst (reads (take (sizeOf (run .spare)) (stored n 0 (imageBytes (run .spare))))) g (read-back (run .spare) r′ q n u)) (ap (λ (z : Spare). z .expected) g))
+
+pub follow-door : (s f : List ℕ) → Bytes s → Bytes f → (n : List ℕ) → Chunk s f n (followOf s f n)
+unfolding followOf
+follow-door s f ys yf n = image-comes (Chunk s f n) s _ _ (λ t. kept refl refl) (λ sp e. run-door s f n yf sp e (accepted-typed s ys sp e))

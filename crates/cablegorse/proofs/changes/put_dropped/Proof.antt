@@ -1,10 +1,16 @@
-use mathlib.Core.Path.{_≡_, sym, ap, _∙_}
 use Rattle.cablegorse.proofs.Outputs.{not-gone, next-short, next-put}
 use borrow.Author.Needs.{needs}
 use Rattle.cablegorse.proofs.changes.put_dropped.Statement.{statement}
 use Rattle.cablegorse.proofs.changes.put_dropped.Tie as tie
 use Rattle.cablegorse.proofs.changes.put_dropped.Reads as reads
 use Rattle.cablegorse.proofs.changes.put_dropped.Lts as lts
+use Rattle.cablegorse.proofs.changes.applied.Reads as applied-reads
+use Rattle.cablegorse.proofs.changes.still.Reads as still-reads
+use Rattle.cablegorse.proofs.papers.is_gone.Reads as is-gone-reads
+use Rattle.cablegorse.proofs.papers.of_dropping.Reads as of-dropping-reads
+use Rattle.cablegorse.proofs.papers.three.Reads as three-reads
+use Rattle.image.proofs.write.image_size.Reads as image-size-reads
+use Rattle.image.proofs.write.store_image.Reads as store-image-reads
 
 of-dropping-requires : tie.Need-of-dropping-requires
 of-dropping-requires c κs = search needs
@@ -30,11 +36,8 @@ still-requires-2 c κs = search needs
 returns-2 : tie.Need-returns-2
 returns-2 c = let a = c .before .before .before .before .before .before .before .before .before .args in next-short (a .expected) (a .d) _ _ (c .before .before .before .before .before .before .before .of-dropping .ensures) _ (c .before .before .before .before .before .before .is-gone .ensures) (c .before .before .before .before .before .if1 .left) _ (c .before .before .before .image-size .ensures) (c .before .before .if2 .taken) _ (c .before .three .ensures) _ (c .still2 .ensures)
 
-write-image-requires : tie.Need-write-image-requires
-write-image-requires c κs = search needs
-
-written-of-requires : tie.Need-written-of-requires
-written-of-requires c κs = search needs
+store-image-requires : tie.Need-store-image-requires
+store-image-requires c κs = search needs
 
 applied-requires : tie.Need-applied-requires
 applied-requires c κs = search needs
@@ -43,7 +46,7 @@ same-length : tie.Need-same-length
 same-length c = search needs
 
 returns-3 : tie.Need-returns-3
-returns-3 c = let a = c .before .before .before .before .before .before .before .before .before .before .before .before .before .args in next-put (a .expected) (a .d) _ _ (c .before .before .before .before .before .before .before .before .before .before .before .of-dropping .ensures) _ (c .before .before .before .before .before .before .before .before .before .before .is-gone .ensures) (c .before .before .before .before .before .before .before .before .before .if1 .left) _ (c .before .before .before .before .before .before .before .image-size .ensures) (c .before .before .before .before .before .before .if2 .left) _ _ (c .before .before .before .before .write-image .ensures) _ (c .before .written-of .ensures) _ (c .applied .ensures)
+returns-3 c = let a = c .before .before .before .before .before .before .before .before .before .before .before .before .args in next-put (a .expected) (a .d) _ _ (c .before .before .before .before .before .before .before .before .before .before .of-dropping .ensures) _ (c .before .before .before .before .before .before .before .before .before .is-gone .ensures) (c .before .before .before .before .before .before .before .before .if1 .left) _ (c .before .before .before .before .before .before .image-size .ensures) (c .before .before .before .before .before .if2 .left) _ (c .before .before .before .store-image .ensures) _ (c .applied .ensures)
 
 pub put-dropped-spec : {M : Type 1} → statement M
 put-dropped-spec =
@@ -57,8 +60,7 @@ put-dropped-spec =
     three-requires
     still-requires-2
     returns-2
-    write-image-requires
-    written-of-requires
+    store-image-requires
     applied-requires
     same-length
     returns-3)
