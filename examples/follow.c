@@ -1,5 +1,5 @@
 /* SPDX-License-Identifier: Apache-2.0 */
-/* The least host in C: begins with an image, follows a feed by sequence number, takes over, and says who holds ECU 5.
+/* The least host in C: begins with an image, follows a feed as its spare, takes over, and says who holds ECU 5.
  *
  *     follow IMAGE FEED
  *
@@ -30,28 +30,19 @@ static size_t load(const char *path, uint8_t *into, size_t room) {
     return length;
 }
 
-static cablegorse_applied apply(const uint8_t *feed, size_t feed_len, size_t at) {
-    cablegorse_applied step = cablegorse_apply(image, image_len, feed, feed_len, at, next, sizeof next, removed,
-                                               sizeof removed, expired, sizeof expired);
-    if (step.part == CABLEGORSE_PART_APPLIED) { /* refused or not: the number moved on */
-        memcpy(image, next, step.written);
-        image_len = step.written;
-    }
-    return step;
+static void keep(uint64_t written) {
+    memcpy(image, next, written);
+    image_len = written;
 }
 
-static void follow(const uint8_t *feed, size_t feed_len) {
-    size_t at = 0;
-    while (at < feed_len) {
-        cablegorse_applied step = apply(feed, feed_len, at);
-        if (step.place == at) { /* 17 to 19: no record stands there */
-            printf("bad %u at byte %zu\n", step.number, at);
-            return;
-        }
-        printf("record %u: %u, %s\n", step.sequence, step.number,
-               step.part == CABLEGORSE_PART_APPLIED ? "applied" : "not applied");
-        at = step.place;
-    }
+/* As the spare: all that has arrived at once. What is due is applied, what is out of turn passed over. */
+static void follow(const uint8_t *chunk, size_t chunk_len) {
+    cablegorse_followed run = cablegorse_follow(image, image_len, chunk, chunk_len, next, sizeof next);
+    if (run.part == CABLEGORSE_CHUNK_ENDED || run.part == CABLEGORSE_CHUNK_STOPPED)
+        keep(run.written);
+    printf("%llu records read, %llu applied\n", (unsigned long long)run.read, (unsigned long long)run.applied);
+    if (run.part == CABLEGORSE_CHUNK_STOPPED) /* after 17 a real host keeps the bytes from there on for the next chunk */
+        printf("bad %u at byte %llu\n", run.number, (unsigned long long)run.place);
 }
 
 static void put(uint8_t *at, uint64_t number, int bytes) {
@@ -59,7 +50,8 @@ static void put(uint8_t *at, uint64_t number, int bytes) {
         at[i] = (uint8_t)(number >> 8 * i);
 }
 
-/* As the primary: a tester (subject 9) asks for ECU 5. A real host sends the record on, whatever the answer. */
+/* As the primary: a tester (subject 9) asks for ECU 5, and gets the record's own answer. A real host sends the record on,
+ * whatever that is. */
 static void ask(uint32_t expected) {
     /* Length, kind, sequence; then an ACTIVE record's body, whose fields stand 4 bytes later than in the record itself. */
     uint8_t record[CABLEGORSE_ACTIVE_BYTES + 4] = {0};
@@ -74,7 +66,10 @@ static void ask(uint32_t expected) {
     body[CABLEGORSE_AT_SET + 5 / 8] = 1 << 5 % 8;
     put(body + CABLEGORSE_AT_SUBJECT, 9, 2);
     put(body + CABLEGORSE_AT_EXPIRES, 4000, 8);
-    cablegorse_applied step = apply(record, sizeof record, 0);
+    cablegorse_applied step = cablegorse_apply(image, image_len, record, sizeof record, 0, next, sizeof next, removed,
+                                               sizeof removed, expired, sizeof expired);
+    if (step.part == CABLEGORSE_PART_APPLIED) /* refused or not: the number moved on */
+        keep(step.written);
     printf("as primary, record %u asks for ECU 5: %u, %s\n", step.sequence, step.number,
            step.part == CABLEGORSE_PART_APPLIED ? "applied" : "not applied");
 }

@@ -10,8 +10,8 @@
  *
  * Slices. Two arguments, a pointer to the first byte and the length in bytes. An empty slice may be (NULL, 0): nothing
  * is read or written through its pointer. A slice that is written (not const) must not overlap any other of the call. An
- * empty image is 17 Torn, an empty feed too; an empty name is a name; an empty output is too short for anything but
- * nothing.
+ * empty image is 17 Torn, an empty feed too; an empty chunk is followed to its end at once; an empty name is a name; an
+ * empty output is too short for anything but nothing.
  *
  * bin/check-header holds this file to the library's source, tests/c/boundary.c tries what it says. */
 #ifndef CABLEGORSE_H
@@ -81,6 +81,16 @@ enum cablegorse_part {
                                            The next image was written: KEEP IT, whatever the number. Its expected number
                                            moved on; to the old image every later record would be 16 Ahead. */
     CABLEGORSE_PART_SHORT_OUTPUT = 3    /* 21: nothing was written. Call again with more room. */
+};
+
+/* ---- how far a run over a chunk came, and so what was written. A 1 isn't a change's 1: here the image was written. */
+enum cablegorse_chunk_part {
+    CABLEGORSE_CHUNK_IMAGE_REFUSED = 0, /* 17 to 20, 12: nothing was written. Fetch the peer's image. */
+    CABLEGORSE_CHUNK_STOPPED = 1,       /* 17 to 19: at place stands no record that can be read. The image after those
+                                           before it was written: KEEP IT. After 17 what is left goes before the next
+                                           chunk; after 18 and 19 cut the link. */
+    CABLEGORSE_CHUNK_ENDED = 2,         /* 0: every record was read. The next image was written: KEEP IT. */
+    CABLEGORSE_CHUNK_SHORT_OUTPUT = 3   /* 21: nothing was written. Call again with more room. */
 };
 
 /* ---- kinds of records, of scopes, of coverages; and where a field stands in an ACTIVE or a DEFUNCT record. Numbers in
@@ -154,10 +164,29 @@ typedef struct cablegorse_applied {
     uint64_t lapsed;
 } cablegorse_applied;
 
+/* A chunk's answer: the number and values of what ended the run. part: enum cablegorse_chunk_part. expected: the number
+ * that is due next. place: where the last record that was read ends. read: how many were; applied: how many of them were
+ * in turn, refused by their operation or not. written: bytes of the next image. The last five are 0 for parts 0 and 3. */
+typedef struct cablegorse_followed {
+    uint32_t number;
+    uint32_t count;
+    uint64_t v[5];
+    uint32_t part;
+    uint32_t expected;
+    uint64_t place;
+    uint64_t read;
+    uint64_t applied;
+    uint64_t written;
+} cablegorse_followed;
+
 #ifdef __cplusplus
-static_assert(sizeof(size_t) == 8 && sizeof(cablegorse_told) == 48 && sizeof(cablegorse_applied) == 88, "x86-64 alone");
+static_assert(sizeof(size_t) == 8 && sizeof(cablegorse_told) == 48 && sizeof(cablegorse_applied) == 88 &&
+                  sizeof(cablegorse_followed) == 88,
+              "x86-64 alone");
 #else
-_Static_assert(sizeof(size_t) == 8 && sizeof(cablegorse_told) == 48 && sizeof(cablegorse_applied) == 88, "x86-64 alone");
+_Static_assert(sizeof(size_t) == 8 && sizeof(cablegorse_told) == 48 && sizeof(cablegorse_applied) == 88 &&
+                   sizeof(cablegorse_followed) == 88,
+               "x86-64 alone");
 #endif
 
 /* ---- images and the feed */
@@ -171,6 +200,13 @@ cablegorse_told cablegorse_test(const uint8_t *image, size_t image_len);
 cablegorse_applied cablegorse_apply(const uint8_t *image, size_t image_len, const uint8_t *feed, size_t feed_len,
                                     size_t at, uint8_t *next, size_t next_len, uint8_t *removed, size_t removed_len,
                                     uint8_t *expired, size_t expired_len);
+
+/* Follows a whole chunk of a feed, from its first byte on, as cablegorse_apply would record by record: what is due is
+ * applied, what is out of turn (15, 16) is passed over. One image is read and one written, so a spare that is behind
+ * catches up faster; what a record removed and what its operation answered isn't told. enum cablegorse_chunk_part says
+ * what the host does next. */
+cablegorse_followed cablegorse_follow(const uint8_t *image, size_t image_len, const uint8_t *chunk, size_t chunk_len,
+                                      uint8_t *next, size_t next_len);
 
 /* 001's delete_defunct: 0 [1] gone; 0 [0] there is none with this id on this scope; 26 it is another subject's; 8 gone
  * all the same. Part 2 for each of these: where written isn't 0 the next image was written and must be kept, else the old

@@ -1,53 +1,35 @@
 // SPDX-License-Identifier: Apache-2.0
-//! The least host in Rust: begins with an image, follows a feed by sequence number, takes over,
-//! and says who holds ECU 5. examples/follow.c is the same in C and prints the same.
+//! The least host in Rust: begins with an image, follows a feed as its spare, takes over, and
+//! says who holds ECU 5. examples/follow.c is the same in C and prints the same.
 //!
 //!     cargo run --example follow -- IMAGE FEED
 
 use std::{env, error::Error, fs};
 
-use cablegorse::{Active, Coverage, Lock, LockId, Operation, Replica, Scope, Step};
-
-fn said(step: &Step) -> &'static str {
-    if step.applied {
-        "applied"
-    } else {
-        "not applied"
-    }
-}
-
-fn follow(replica: &mut Replica, feed: &[u8]) {
-    let mut at = 0;
-    while at < feed.len() {
-        let step = replica.apply(feed, at);
-        if step.is_bad() {
-            println!("bad {} at byte {at}", step.number());
-            return;
-        }
-        println!(
-            "record {}: {}, {}",
-            step.sequence,
-            step.number(),
-            said(&step)
-        );
-        at = step.place;
-    }
-}
+use cablegorse::{Active, Coverage, Lock, LockId, Operation, Replica, Scope};
 
 fn main() -> Result<(), Box<dyn Error>> {
     let [image, feed] = &env::args().skip(1).collect::<Vec<_>>()[..] else {
         return Err("usage: follow IMAGE FEED".into());
     };
     let mut replica = Replica::from_image(&fs::read(image)?)?;
-    follow(&mut replica, &fs::read(feed)?);
+
+    // As the spare: all that has arrived at once. What is due is applied, what is out of turn
+    // passed over.
+    let run = replica.follow(&fs::read(feed)?);
+    println!("{} records read, {} applied", run.read, run.applied);
+    if let Some(refusal) = run.stop {
+        // After 17 a real host keeps the bytes from there on for the next chunk.
+        println!("bad {} at byte {}", refusal.number(), run.place);
+    }
     println!(
         "taken over: revision {}, record {} is due",
         replica.revision(),
         replica.expected()
     );
 
-    // As the primary: a tester (subject 9) asks for ECU 5. A real host sends the record on,
-    // whatever the answer.
+    // As the primary: a tester (subject 9) asks for ECU 5, and gets the record's own answer. A
+    // real host sends the record on, whatever that is.
     let lock = Active {
         lock: Lock {
             id: LockId::from_u128(99),
@@ -66,7 +48,11 @@ fn main() -> Result<(), Box<dyn Error>> {
         "as primary, record {} asks for ECU 5: {}, {}",
         step.sequence,
         step.number(),
-        said(&step)
+        if step.applied {
+            "applied"
+        } else {
+            "not applied"
+        }
     );
 
     match replica.active_for_scope(Scope::Ecu(5)) {

@@ -11,7 +11,7 @@ mod types;
 pub use names::{NameTable, Named, TABLE_BYTES};
 pub use record::{ACTIVE_BYTES, DEFUNCT_BYTES, HEAD_BYTES, LIST_LIMIT, ListTooLong, Operation};
 pub use refusal::{Reason, Refusal, ResponseClass, response_class};
-pub use replica::{Done, Replica, Step};
+pub use replica::{Done, Replica, Run, Step};
 pub use types::{
     Active, BadUuid, Coverage, Defunct, EcuSet, Holder, Lock, LockId, Scope, TesterPresent,
 };

@@ -2,9 +2,9 @@
 //! The static library's functions on byte slices: the one module with `unsafe`.
 //!
 //! Each function here is safe and total: any bytes and any numbers get an answer. What is
-//! written is said by [`Applied::part`], not by the number beside it: a record whose operation
-//! was refused is applied all the same ([`Part::Applied`]), and its next image must be kept. A
-//! success keeps the bytes past its output. [`crate::Replica`] and [`crate::NameTable`] are built
+//! written is said by [`Applied::part`] and [`Followed::part`], not by the number beside it: a
+//! record whose operation was refused is applied all the same ([`Part::Applied`]), and its next
+//! image must be kept. A success keeps the bytes past its output. [`crate::Replica`] and [`crate::NameTable`] are built
 //! on these; a host that keeps its own buffers may call them as they are.
 #![allow(unsafe_code)]
 
@@ -83,6 +83,41 @@ impl Part {
     }
 }
 
+/// How far a run over a chunk came, and so what was written. Its numbers aren't [`Part`]'s.
+#[derive(Clone, Copy, Debug, PartialEq, Eq, Hash)]
+#[non_exhaustive]
+pub enum ChunkPart {
+    /// 0: the image was refused (17 to 20, 12). Nothing was written.
+    ImageRefused = 0,
+    /// 1: no record can be read (17 to 19) where the run stopped. The image after the records
+    /// before that was written and is the state from now on.
+    Stopped = 1,
+    /// 2: every record was read. The next image was written and is the state from now on.
+    Ended = 2,
+    /// 3: the output is too short (21). Nothing was written.
+    ShortOutput = 3,
+}
+
+impl ChunkPart {
+    /// The boundary's number.
+    #[must_use]
+    pub const fn number(self) -> u32 {
+        self as u32
+    }
+
+    /// The part with this number.
+    #[must_use]
+    pub const fn from_number(number: u32) -> Option<Self> {
+        Some(match number {
+            0 => Self::ImageRefused,
+            1 => Self::Stopped,
+            2 => Self::Ended,
+            3 => Self::ShortOutput,
+            _ => return None,
+        })
+    }
+}
+
 /// An answer of one number and up to five values.
 #[repr(C)]
 #[derive(Clone, Copy, Debug, PartialEq, Eq, Default)]
@@ -117,14 +152,9 @@ pub struct Applied {
 impl Applied {
     /// # Panics
     ///
-    /// Where the part is none of [`Part`]'s: then archive and crate aren't of one version.
+    /// Where the part is none that is known: then archive and crate aren't of one version.
     fn from_raw(raw: raw::Applied) -> Self {
-        let Some(part) = Part::from_number(raw.part) else {
-            panic!(
-                "libcablegorse told part {}: archive and crate aren't of one version",
-                raw.part
-            );
-        };
+        let part = Part::from_number(raw.part).unwrap_or_else(|| other_version(raw.part));
         Self {
             told: raw.told,
             part,
@@ -137,11 +167,53 @@ impl Applied {
     }
 }
 
+/// What following a chunk of a feed answers.
+#[derive(Clone, Copy, Debug, PartialEq, Eq)]
+pub struct Followed {
+    /// Document 01's number of what ended the run, and its values; 0 at the chunk's end.
+    pub told: Told,
+    /// How far it came: what was written, and what ended it.
+    pub part: ChunkPart,
+    /// The number that is due next.
+    pub expected: u32,
+    /// Where the last record that was read ends.
+    pub place: usize,
+    /// Records that were read.
+    pub read: usize,
+    /// Those of them that were in turn, refused by their operation or not.
+    pub applied: usize,
+    /// Bytes of the next image; 0 where none was written.
+    pub written: usize,
+}
+
+impl Followed {
+    /// # Panics
+    ///
+    /// As [`Applied::from_raw`].
+    fn from_raw(raw: raw::Followed) -> Self {
+        let part = ChunkPart::from_number(raw.part).unwrap_or_else(|| other_version(raw.part));
+        Self {
+            told: raw.told,
+            part,
+            expected: raw.expected,
+            place: raw.place as usize,
+            read: raw.read as usize,
+            applied: raw.applied as usize,
+            written: raw.written as usize,
+        }
+    }
+}
+
+fn other_version(part: u32) -> ! {
+    panic!("libcablegorse told part {part}: archive and crate aren't of one version");
+}
+
 // What crosses the boundary is laid out as C does: two u32, five u64, and so on. In C an array
 // in a struct and a struct at the front lie where the single fields would.
 const _: () = {
     assert!(size_of::<Told>() == 48 && align_of::<Told>() == 8);
     assert!(size_of::<raw::Applied>() == 88 && align_of::<raw::Applied>() == 8);
+    assert!(size_of::<raw::Followed>() == 88 && align_of::<raw::Followed>() == 8);
     // Lengths are u64 in the answers; a slice's length fits.
     assert!(size_of::<usize>() == 8);
 };
@@ -162,6 +234,17 @@ mod raw {
         pub lapsed: u64,
     }
 
+    #[repr(C)]
+    pub struct Followed {
+        pub told: Told,
+        pub part: u32,
+        pub expected: u32,
+        pub place: u64,
+        pub read: u64,
+        pub applied: u64,
+        pub written: u64,
+    }
+
     // SAFETY: the archive has these names with these types (include/cablegorse.h, bin/check-header);
     // a byte slice passes as pointer and length.
     unsafe extern "C" {
@@ -178,6 +261,14 @@ mod raw {
             expired: *mut u8,
             expired_len: usize,
         ) -> Applied;
+        pub fn cablegorse_follow(
+            image: *const u8,
+            image_len: usize,
+            chunk: *const u8,
+            chunk_len: usize,
+            next: *mut u8,
+            next_len: usize,
+        ) -> Followed;
         pub fn cablegorse_delete_defunct(
             image: *const u8,
             image_len: usize,
@@ -256,6 +347,24 @@ pub fn apply(
         )
     };
     Applied::from_raw(raw)
+}
+
+/// Follows a whole chunk of a feed from its first byte on: each record is read, applied where it
+/// is the one due and else passed over. Writes the image after the last one that can be read.
+#[must_use]
+pub fn follow(image: &[u8], chunk: &[u8], next: &mut [u8]) -> Followed {
+    // SAFETY: as in `apply`.
+    let raw = unsafe {
+        raw::cablegorse_follow(
+            image.as_ptr(),
+            image.len(),
+            chunk.as_ptr(),
+            chunk.len(),
+            next.as_mut_ptr(),
+            next.len(),
+        )
+    };
+    Followed::from_raw(raw)
 }
 
 /// 001's `delete_defunct` on an image; the id as two big-endian halves, the scope as kind and

@@ -4,7 +4,7 @@
 use std::fmt;
 
 use crate::{
-    library::{self, Applied, EXPIRED_LIMIT, IMAGE_LIMIT, Part, REMOVED_LIMIT, Told, question},
+    library::{self, EXPIRED_LIMIT, IMAGE_LIMIT, Part, REMOVED_LIMIT, Told, question},
     record::{
         self, ACTIVE_BYTES, DEFUNCT_BYTES, HEAD_BYTES, Head, ListTooLong, Operation, empty_image,
     },
@@ -61,6 +61,27 @@ impl Step {
     }
 }
 
+/// What a chunk of a feed gave, see [`Replica::follow`].
+#[derive(Clone, Copy, Debug, PartialEq, Eq)]
+pub struct Run {
+    /// How many records were read, in turn or not.
+    pub read: usize,
+    /// How many of them were in turn and handed to their operation, refused by it or not.
+    pub applied: usize,
+    /// Where the last record that was read ends: what is left of the chunk starts here.
+    pub place: usize,
+    /// Why no more was read: 17, 18 or 19 at this place, none at the chunk's end.
+    pub stop: Option<Refusal>,
+}
+
+impl Run {
+    /// How many records were out of turn, and so passed over.
+    #[must_use]
+    pub fn passed_over(&self) -> usize {
+        self.read - self.applied
+    }
+}
+
 /// Output buffers of full size, so that 21 can't happen.
 struct Room {
     next: Vec<u8>,
@@ -83,8 +104,9 @@ impl Room {
 /// Both are the same thing: an image that the library has accepted, and nothing else that
 /// matters; two replicas are equal when their images are. A primary writes each operation as a
 /// record with its own expected number, applies that record itself and sends it on
-/// ([`Replica::perform`]); a spare applies what arrives ([`Replica::apply`]). At a takeover the
-/// spare's replica is the primary's from then on, and nothing is converted.
+/// ([`Replica::perform`]); a spare applies what arrives ([`Replica::apply`], and
+/// [`Replica::follow`] for many records at once). At a takeover the spare's replica is the
+/// primary's from then on, and nothing is converted.
 pub struct Replica {
     /// An accepted image; its length is the image's.
     image: Vec<u8>,
@@ -182,20 +204,64 @@ impl Replica {
                 .collect(),
         };
         if step.applied {
-            self.take_next(&applied);
+            self.take_next(applied.written, &applied);
         }
         step
     }
 
+    /// Follows a whole chunk of a feed, from its first byte on: the records in it are applied as
+    /// [`Replica::apply`] would one after another, and those out of turn are passed over. It ends
+    /// at the chunk's end or where no record can be read, and keeps what came before.
+    ///
+    /// For a spare that has many records to catch up with: the image is read, tested and written
+    /// once for all of them. It doesn't say which locks went and what each operation answered; a
+    /// host that must know uses [`Replica::apply`].
+    ///
+    /// After [`Refusal::Torn`] the rest belongs before the bytes that arrive next:
+    ///
+    /// ```
+    /// use cablegorse::{Operation, Refusal, Replica};
+    ///
+    /// let (mut primary, mut spare) = (Replica::empty(), Replica::empty());
+    /// let mut sent = Vec::new();
+    /// for now in [10, 20, 30] {
+    ///     let (record, _) = primary.perform(&Operation::ExpireDefunct { now })?;
+    ///     sent.extend(record);
+    /// }
+    ///
+    /// // The first read ends within the third record, the second brings its rest.
+    /// let (first, second) = sent.split_at(40);
+    /// let mut arrived = first.to_vec();
+    /// let run = spare.follow(&arrived);
+    /// assert_eq!((run.read, run.applied, run.place), (2, 2, 32));
+    /// assert_eq!(run.stop, Some(Refusal::Torn { offset: 32 }));
+    ///
+    /// arrived.drain(..run.place);
+    /// arrived.extend(second);
+    /// let run = spare.follow(&arrived);
+    /// assert_eq!((run.applied, run.stop), (1, None));
+    /// assert_eq!(spare, primary);
+    /// # Ok::<(), cablegorse::ListTooLong>(())
+    /// ```
+    ///
+    /// # Panics
+    ///
+    /// Where the library has written no next image.
+    pub fn follow(&mut self, chunk: &[u8]) -> Run {
+        let followed = library::follow(&self.image, chunk, &mut self.room.next);
+        self.take_next(followed.written, &followed);
+        Run {
+            read: followed.read,
+            applied: followed.applied,
+            place: followed.place,
+            stop: Refusal::from_told(&followed.told),
+        }
+    }
+
     /// Makes the image that was written our own. Kept silently, the old one would make every later
     /// record Ahead.
-    fn take_next(&mut self, applied: &Applied) {
-        let written = applied.written;
-        assert!(
-            written > 0,
-            "record {} was applied and the library wrote no next image: {applied:?}",
-            applied.sequence
-        );
+    fn take_next(&mut self, written: usize, answer: &dyn fmt::Debug) {
+        assert!(written > 0, "the library wrote no next image: {answer:?}");
         self.image.clear();
         self.image.extend_from_slice(&self.room.next[..written]);
     }
@@ -238,7 +304,7 @@ impl Replica {
         };
         // At the last revision the lock goes all the same.
         if matches!(answer, Ok(true) | Err(Refusal::RevisionOverflow)) {
-            self.take_next(&applied);
+            self.take_next(applied.written, &applied);
         }
         answer
     }
@@ -493,6 +559,7 @@ fn written_id(bytes: &[u8]) -> LockId {
 #[cfg(test)]
 mod tests {
     use super::*;
+    use crate::library::Applied;
 
     #[test]
     #[should_panic(expected = "the library wrote no next image")]
@@ -506,6 +573,6 @@ mod tests {
             gone: 0,
             lapsed: 0,
         };
-        Replica::empty().take_next(&applied);
+        Replica::empty().take_next(applied.written, &applied);
     }
 }

@@ -3,9 +3,9 @@
 //! their data, and what a spare keeps.
 
 use cablegorse::{
-    Active, Coverage, Done, Lock, LockId, Operation, Reason, Refusal, Replica, ResponseClass,
+    Active, Coverage, Done, Lock, LockId, Operation, Reason, Refusal, Replica, ResponseClass, Run,
     Scope,
-    library::{self, Part, Told},
+    library::{self, ChunkPart, Part, Told},
     response_class,
 };
 
@@ -290,6 +290,144 @@ fn out_of_turn_is_never_applied() {
     assert_eq!(step.answer, Err(Refusal::Repeat { expected: 2 }));
 }
 
+/// Five records of a primary, and the primary after them: the fourth is refused by 7.
+fn five() -> (Vec<Vec<u8>>, Replica) {
+    let mut primary = Replica::empty();
+    let operations = [
+        Operation::InsertActive {
+            lock: lock(1, Scope::Ecu(5), &[5], 1),
+        },
+        Operation::Delete { id: id(1) },
+        Operation::InsertActive {
+            lock: lock(2, Scope::Ecu(5), &[5], 2),
+        },
+        Operation::InsertActive {
+            lock: lock(3, Scope::FunctionalGroup(3), &[5, 6], 1),
+        },
+        Operation::CommitReplacement {
+            roots: vec![id(2)],
+            lock: lock(4, Scope::Ecu(5), &[5], 3),
+            broken_by: 9,
+            broken_at: 50,
+        },
+    ];
+    let performed = operations.map(|operation| primary.perform(&operation).expect("few ids"));
+    let numbers: Vec<u32> = performed.iter().map(|(_, step)| step.number()).collect();
+    assert_eq!(numbers, [0, 0, 0, 7, 0]);
+    (performed.map(|(record, _)| record).to_vec(), primary)
+}
+
+/// What `follow` is: `apply` from record to record. Its run and the replica after it.
+fn one_by_one(chunk: &[u8]) -> (Run, Replica) {
+    let mut spare = Replica::empty();
+    let mut run = Run {
+        read: 0,
+        applied: 0,
+        place: 0,
+        stop: None,
+    };
+    while run.place < chunk.len() {
+        let step = spare.apply(chunk, run.place);
+        if step.is_bad() {
+            run.stop = step.answer.err();
+            break;
+        }
+        run.read += 1;
+        run.applied += usize::from(step.applied);
+        run.place = step.place;
+    }
+    (run, spare)
+}
+
+/// Follows a chunk from the empty state on, and holds it to `apply`.
+fn followed(chunk: &[u8]) -> (Run, Replica) {
+    let mut spare = Replica::empty();
+    let run = spare.follow(chunk);
+    assert_eq!((run, spare.clone()), one_by_one(chunk));
+    (run, spare)
+}
+
+#[test]
+fn a_chunk_is_its_records_one_by_one() {
+    let (records, primary) = five();
+    let chunk = records.concat();
+    let (run, spare) = followed(&chunk);
+    // The refused one is applied: the number moved on.
+    assert_eq!((run.read, run.applied, run.passed_over()), (5, 5, 0));
+    assert_eq!((run.place, run.stop), (chunk.len(), None));
+    assert_eq!(spare, primary);
+    assert_eq!(spare.expected(), 5);
+}
+
+#[test]
+fn an_empty_chunk_is_at_its_end() {
+    let mut spare = a();
+    let run = spare.follow(&[]);
+    assert_eq!((run.read, run.applied, run.place), (0, 0, 0));
+    assert_eq!((run.stop, spare), (None, a()));
+}
+
+/// Every cut: 17 at the record that is cut, what came before is kept, and the rest of it goes
+/// before the bytes that come next.
+#[test]
+fn a_cut_chunk_goes_on_with_the_next() {
+    let (records, primary) = five();
+    let chunk = records.concat();
+    for cut in 0..=chunk.len() {
+        let (first, second) = chunk.split_at(cut);
+        let (run, mut spare) = followed(first);
+        let whole = run.place == cut;
+        let torn = Refusal::Torn { offset: run.place };
+        assert_eq!(run.stop, (!whole).then_some(torn), "cut at {cut}");
+        assert_eq!(spare.expected() as usize, run.applied);
+        let mut arrived = first[run.place..].to_vec();
+        arrived.extend(second);
+        assert_eq!(spare.follow(&arrived).stop, None);
+        assert_eq!(spare, primary, "cut at {cut}");
+    }
+}
+
+#[test]
+fn repeats_and_gaps_are_passed_over() {
+    let (records, primary) = five();
+    let send = |places: &[usize]| -> Vec<u8> {
+        let sent = places.iter().map(|place| records[*place].clone());
+        sent.collect::<Vec<_>>().concat()
+    };
+    // 3 comes early, 1 twice, and 2 not at all.
+    let (run, mut spare) = followed(&send(&[0, 3, 1, 1, 4]));
+    assert_eq!((run.read, run.applied, run.passed_over()), (5, 2, 3));
+    assert_eq!((run.stop, spare.expected()), (None, 2));
+    let image = spare.image().to_vec();
+    // Nothing that is due: every byte stays.
+    let run = spare.follow(&send(&[0, 1, 3, 4]));
+    assert_eq!((run.read, run.applied, run.stop), (4, 0, None));
+    assert_eq!(spare.image(), image);
+    assert_eq!(spare.follow(&send(&[0, 1, 2, 3, 4])).applied, 3);
+    assert_eq!(spare, primary);
+}
+
+#[test]
+fn garbage_stops_a_chunk() {
+    let (records, _) = five();
+    let before = records[..2].concat();
+    let at = before.len();
+    let bad_kind = [6, 0, 24, 0, 2, 0, 0, 0];
+    let mut bad_field = records[2].clone();
+    bad_field[8 + 16] = 3; // its scope's kind
+    for (garbage, stop) in [
+        (&[0xff; 40][..], Refusal::BadKind { offset: at }),
+        (&bad_kind, Refusal::BadKind { offset: at }),
+        (&bad_field, Refusal::BadField { offset: at }),
+    ] {
+        // What comes after it isn't looked at.
+        let chunk = [&before, garbage, &records[2]].concat();
+        let (run, spare) = followed(&chunk);
+        assert_eq!((run.read, run.applied, run.place), (2, 2, at));
+        assert_eq!((run.stop, spare.expected()), (Some(stop), 2));
+    }
+}
+
 #[test]
 fn images_are_tested() {
     let image = a().image().to_vec();
@@ -373,6 +511,33 @@ fn a_short_buffer_is_told_and_left() {
 }
 
 #[test]
+fn a_chunk_s_image_has_room_or_not() {
+    let (records, primary) = five();
+    let (chunk, needed) = (records.concat(), primary.image().len());
+    let empty = Replica::empty();
+    for length in 0..needed {
+        let mut next = vec![7; length];
+        let followed = library::follow(empty.image(), &chunk, &mut next);
+        assert_eq!(followed.told.number, 21);
+        assert_eq!(followed.told.values, [needed as u64, 0, 0, 0, 0]);
+        assert_eq!(followed.part, ChunkPart::ShortOutput);
+        let (expected, read) = (followed.expected, followed.read);
+        assert_eq!((expected, read, followed.written), (0, 0, 0));
+        assert!(next.iter().all(|byte| *byte == 7));
+    }
+    let mut next = vec![7; needed + 3];
+    let followed = library::follow(empty.image(), &chunk, &mut next);
+    assert_eq!(followed.part, ChunkPart::Ended);
+    assert_eq!((followed.expected, followed.written), (5, needed));
+    assert_eq!(next, [primary.image(), &[7; 3]].concat());
+    // An image that is none: nothing is read of the chunk.
+    let followed = library::follow(&[], &chunk, &mut next);
+    assert_eq!(followed.part, ChunkPart::ImageRefused);
+    assert_eq!((followed.told.number, followed.read), (17, 0));
+    assert_eq!(&next[..needed], primary.image());
+}
+
+#[test]
 fn response_classes() {
     let class = |number| response_class(number);
     for number in 0..64 {
@@ -452,4 +617,8 @@ fn parts_by_number() {
         assert_eq!(Part::from_number(number).unwrap().number(), number);
     }
     assert_eq!(Part::from_number(4), None);
+    for number in 0..4 {
+        assert_eq!(ChunkPart::from_number(number).unwrap().number(), number);
+    }
+    assert_eq!(ChunkPart::from_number(4), None);
 }

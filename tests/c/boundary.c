@@ -1,6 +1,7 @@
 /* SPDX-License-Identifier: Apache-2.0 */
 /* What include/cablegorse.h says, tried from C: every function, every field of an answer with a number of its own in it,
- * (NULL, 0) in the place of every slice, every question, each part, names known and new, and a wrong `folding`.
+ * (NULL, 0) in the place of every slice, every question, each part, whole chunks, names known and new, and a wrong
+ * `folding`.
  * Prints each line that is wrong, and how many were right. */
 #include <stdio.h>
 #include <string.h>
@@ -225,6 +226,46 @@ static void questions(void) {
     CHECK(t.number == CABLEGORSE_DONE && t.v[0] == 42);
 }
 
+/* A chunk: locks on ECU 5 and 6, one that is refused, one that comes early, the first again; each part. */
+static void chunks(void) {
+    static uint8_t chunk[5 * 95 + 10];
+    size_t at = 0;
+    start(0x1122334455667788, 0xfffffffe);
+    uint8_t ids[] = {1, 2, 3, 4, 1}, ecus[] = {5, 6, 5, 7, 5};
+    uint32_t sequences[] = {0xfffffffe, 0xffffffff, 0, 2, 0xfffffffe};
+    for (int i = 0; i < 5; i++, at += record_len) {
+        insert(sequences[i], ids[i], CABLEGORSE_SCOPE_ECU, ecus[i], 1, (uint8_t)(1 << ecus[i]), 0);
+        memcpy(chunk + at, record, record_len);
+    }
+    memset(next, 0x5a, sizeof next);
+    cablegorse_followed f = cablegorse_follow(image, image_len, chunk, at, next, 20 + 2 * 91 - 1);
+    CHECK(f.number == CABLEGORSE_SHORT_OUTPUT && f.count == 1 && f.v[0] == 20 + 2 * 91 && f.v[1] == 0);
+    CHECK(f.part == CABLEGORSE_CHUNK_SHORT_OUTPUT && f.expected == 0 && f.place == 0 && f.read == 0 && f.applied == 0);
+    CHECK(f.written == 0 && next[0] == 0x5a);
+    f = cablegorse_follow(image, 19, chunk, at, next, sizeof next);
+    CHECK(f.number == CABLEGORSE_TORN && f.count == 1 && f.part == CABLEGORSE_CHUNK_IMAGE_REFUSED && f.v[0] == 0);
+    CHECK(f.expected == 0 && f.place == 0 && f.read == 0 && f.applied == 0 && f.written == 0 && next[0] == 0x5a);
+    f = cablegorse_follow(image, image_len, chunk, at, next, 20 + 2 * 91);
+    CHECK(f.number == CABLEGORSE_DONE && f.count == 0 && f.v[0] == 0 && f.v[4] == 0 && f.part == CABLEGORSE_CHUNK_ENDED);
+    CHECK(f.expected == 1 && f.place == 5 * 95 && f.read == 5 && f.applied == 3 && f.written == 20 + 2 * 91);
+    CHECK(next[f.written] == 0x5a);
+    /* The same by apply, record by record; then half a record behind the chunk, and no record at all. */
+    size_t before_len = image_len;
+    uint8_t before[CABLEGORSE_HEAD_BYTES];
+    memcpy(before, image, image_len);
+    for (size_t place = 0; place < at;)
+        place = apply(place, chunk, at).place;
+    CHECK(image_len == f.written && memcmp(image, next, image_len) == 0);
+    memcpy(chunk + at, record, 10);
+    f = cablegorse_follow(before, before_len, chunk, at + 10, next, sizeof next);
+    CHECK(f.number == CABLEGORSE_TORN && f.count == 1 && f.v[0] == at && f.part == CABLEGORSE_CHUNK_STOPPED);
+    CHECK(f.place == at && f.read == 5 && f.applied == 3 && memcmp(image, next, image_len) == 0);
+    chunk[at + 2] = 24;
+    f = cablegorse_follow(before, before_len, chunk, at + 10, next, sizeof next);
+    CHECK(f.number == CABLEGORSE_BAD_KIND && f.v[0] == at && f.part == CABLEGORSE_CHUNK_STOPPED);
+    CHECK(f.written == image_len && memcmp(image, next, image_len) == 0);
+}
+
 /* (NULL, 0) in the place of every slice, alone and together. */
 static void empty_slices(void) {
     start(0, 0);
@@ -242,6 +283,15 @@ static void empty_slices(void) {
     /* It removes nothing and expires nothing, so those two may be empty. */
     a = cablegorse_apply(image, image_len, record, record_len, 0, next, sizeof next, NULL, 0, NULL, 0);
     CHECK(a.number == CABLEGORSE_DONE && a.written == 111);
+    cablegorse_followed f = cablegorse_follow(NULL, 0, NULL, 0, NULL, 0);
+    CHECK(f.number == CABLEGORSE_TORN && f.part == CABLEGORSE_CHUNK_IMAGE_REFUSED);
+    f = cablegorse_follow(image, image_len, record, record_len, NULL, 0);
+    CHECK(f.number == CABLEGORSE_SHORT_OUTPUT && f.v[0] == 111);
+    f = cablegorse_follow(image, image_len, NULL, 0, NULL, 0);
+    CHECK(f.number == CABLEGORSE_SHORT_OUTPUT && f.v[0] == image_len);
+    f = cablegorse_follow(image, image_len, NULL, 0, next, sizeof next);
+    CHECK(f.number == CABLEGORSE_DONE && f.part == CABLEGORSE_CHUNK_ENDED && f.read == 0 && f.place == 0);
+    CHECK(f.written == image_len && memcmp(image, next, image_len) == 0);
     a = cablegorse_delete_defunct(NULL, 0, 1, 1, 1, 5, 1, NULL, 0);
     CHECK(a.number == CABLEGORSE_TORN && a.part == CABLEGORSE_PART_IMAGE_REFUSED);
     a = cablegorse_delete_defunct(image, image_len, 1, 1, 1, 5, 1, NULL, 0);
@@ -303,6 +353,7 @@ int main(void) {
     refused_is_applied();
     parts();
     questions();
+    chunks();
     empty_slices();
     names();
     printf("boundary from C: %d checks, %d wrong\n", right + wrong, wrong);
