@@ -3,8 +3,8 @@
 
 use cablegorse::library;
 use oracle::{
-    boundary::{self, Applied, Full, Told},
-    judge::Judge,
+    boundary::{self, Applied, Followed, Full, Told},
+    judge::{Judge, Spare},
     model::{Operation, Scope},
 };
 
@@ -52,6 +52,19 @@ pub fn applied(applied: library::Applied) -> Applied {
         written: applied.written as u64,
         gone: applied.gone as u64,
         lapsed: applied.lapsed as u64,
+    }
+}
+
+/// The same of a chunk.
+pub fn followed(followed: library::Followed) -> Followed {
+    Followed {
+        told: told(followed.told),
+        part: followed.part.number(),
+        expected: followed.expected,
+        place: followed.place as u64,
+        read: followed.read as u64,
+        applied: followed.applied as u64,
+        written: followed.written as u64,
     }
 }
 
@@ -116,6 +129,47 @@ pub fn apply_bytes(
         );
     }
     due
+}
+
+/// Follows a chunk on both sides, by the judge from its own state and not from the image.
+/// `lengths` gives the buffers' lengths from the one needed; the last one's answer is returned.
+pub fn follow(
+    buffers: &mut Buffers,
+    image: &[u8],
+    spare: Spare,
+    chunk: &[u8],
+    lengths: impl FnOnce(usize) -> Vec<usize>,
+) -> (Followed, boundary::Run) {
+    let run = boundary::run(spare, chunk);
+    let mut last = Followed::default();
+    for length in lengths(run.next.len()) {
+        buffers.fill([length, 0, 0]);
+        last = run.put(&mut buffers.theirs[0]);
+        same_follow(buffers, image, chunk, &last);
+    }
+    (last, run)
+}
+
+/// Any bytes as image and chunk, judged from nothing.
+pub fn follow_bytes(buffers: &mut Buffers, image: &[u8], chunk: &[u8], length: usize) -> Followed {
+    buffers.fill([length, 0, 0]);
+    let due = boundary::follow(image, chunk, &mut buffers.theirs[0]);
+    same_follow(buffers, image, chunk, &due);
+    due
+}
+
+/// The library's side of a run whose judge's side is done.
+fn same_follow(buffers: &mut Buffers, image: &[u8], chunk: &[u8], due: &Followed) {
+    let got = followed(library::follow(image, chunk, &mut buffers.ours[0]));
+    if got != *due || buffers.ours != buffers.theirs {
+        panic!(
+            "follow differs\nimage {}\nchunk {}, next {}\nlibrary {got:?}\njudge   {due:?}\nbuffers agree: {}",
+            hex(image),
+            hex(chunk),
+            buffers.ours[0].len(),
+            buffers.ours == buffers.theirs,
+        );
+    }
 }
 
 fn parts(scope: Scope) -> (u8, u8) {

@@ -6,7 +6,7 @@ use cablegorse::Replica;
 use oracle::{
     boundary::{self, Told},
     generate::{self, Case, Profile, Rng},
-    judge::Judge,
+    judge::{Judge, Spare},
     model::{Operation, State},
     names, small, wire,
 };
@@ -113,6 +113,9 @@ impl Run {
             Profile::Tiny | Profile::Small | Profile::Empty
         ) {
             self.feed(&case, expected);
+        }
+        if self.rng.percent(25) {
+            self.chunk(&case, expected);
         }
     }
 
@@ -235,7 +238,7 @@ impl Run {
         let told = pair::test(image);
         self.tally.calls += 1;
         self.tally.see("damaged image", label(&told));
-        match self.rng.below(4) {
+        match self.rng.below(5) {
             0 => {
                 let lengths = [self.rng.below(20_000), 5824, 2048];
                 let applied = pair::apply_bytes(&mut self.buffers, image, record, 0, lengths);
@@ -253,6 +256,12 @@ impl Run {
                 self.tally.see("read of a damaged image", label(&told));
             }
             2 => {
+                let length = self.rng.below(20_000);
+                let followed = pair::follow_bytes(&mut self.buffers, image, record, length);
+                self.tally
+                    .see("follow from a damaged image", label(&followed.told));
+            }
+            3 => {
                 let told = pair::prepare_bytes(image, 3);
                 self.tally.see("update on a damaged image", label(&told));
             }
@@ -267,7 +276,7 @@ impl Run {
     }
 
     /// A feed over a link that loses, repeats, reorders and damages, followed by the boundary
-    /// and by the safe wrapper.
+    /// and by the safe wrapper: record by record, and whole.
     fn feed(&mut self, case: &Case, expected: u32) {
         if self.rng.percent(60) {
             return;
@@ -275,6 +284,7 @@ impl Run {
         let feed = self.through_a_link(case, expected);
         let image = wire::write_image(&case.state, expected).expect("a sound state");
         let mut spare = Replica::from_image(&image).expect("a sound state");
+        let mut whole = spare.clone();
         let (mut state, mut number, mut at) = (case.state.clone(), expected, 0);
         loop {
             let image = spare.image().to_vec();
@@ -301,6 +311,60 @@ impl Run {
             }
             at = step.place;
         }
+        let run = self.followed(&image, case, expected, &feed);
+        check_run(&whole.follow(&feed), &run, &whole);
+        assert_eq!(whole.image(), spare.image(), "a chunk isn't its records");
+    }
+
+    /// A chunk on any state, cut at a random place more often than not.
+    fn chunk(&mut self, case: &Case, expected: u32) {
+        let mut chunk = self.through_a_link(case, expected);
+        match self.rng.below(8) {
+            0 => chunk.clear(),
+            1..=4 => chunk.truncate(self.rng.below(chunk.len() + 1)),
+            _ => {}
+        }
+        if self.rng.percent(10) {
+            chunk.extend((0..self.rng.below(40)).map(|_| self.rng.word() as u8));
+        }
+        let image = wire::write_image(&case.state, expected).expect("a sound state");
+        let kept = (image.clone(), chunk.clone());
+        self.followed(&image, case, expected, &chunk);
+        assert_eq!((image, chunk), kept, "a lent slice was written");
+    }
+
+    /// A chunk on both sides, into a buffer of some length; now and then into every shorter one.
+    fn followed(
+        &mut self,
+        image: &[u8],
+        case: &Case,
+        expected: u32,
+        chunk: &[u8],
+    ) -> boundary::Run {
+        let spare = Spare {
+            state: case.state.clone(),
+            expected,
+        };
+        let rng = &mut self.rng;
+        let every = rng.percent(2);
+        let (followed, run) = pair::follow(&mut self.buffers, image, spare, chunk, |needed| {
+            let some = lengths(rng, [needed, 0, 0])[0];
+            if every && needed < 1000 {
+                (0..needed).chain([some]).collect()
+            } else {
+                vec![some]
+            }
+        });
+        self.tally.calls += 1;
+        self.tally.see("follow", label(&followed.told));
+        let many = match run.followed.applied {
+            0 => "none applied",
+            1..=4 => "1 to 4 applied",
+            5..=9 => "5 to 9 applied",
+            _ => "more applied",
+        };
+        self.tally.see("follow, its records", many.to_owned());
+        run
     }
 
     fn through_a_link(&mut self, case: &Case, expected: u32) -> Vec<u8> {
@@ -473,6 +537,8 @@ impl Run {
             run.tally.see("cut", label(&told));
             let applied = pair::apply_bytes(&mut run.buffers, cut, &[], 0, [100, 0, 0]);
             assert_eq!(applied.part, 0);
+            let followed = pair::follow_bytes(&mut run.buffers, cut, &[], 100);
+            assert_eq!(followed.part, 0);
         }
         run.tally
     }
@@ -541,6 +607,28 @@ impl Run {
                 run.tally.see("every length", label(&applied.told));
                 run.tally.operations += 1;
             }
+        }
+        run.tally
+    }
+
+    /// Every cut of a chunk, and every short buffer for the whole of it.
+    #[must_use]
+    pub fn every_cut(image: &[u8], chunk: &[u8]) -> Tally {
+        let mut run = Self::new(15);
+        let (state, expected) = wire::read_image(image).expect("an image");
+        let spare = Spare { state, expected };
+        for cut in 0..=chunk.len() {
+            let part = &chunk[..cut];
+            let (followed, _) =
+                pair::follow(&mut run.buffers, image, spare.clone(), part, |needed| {
+                    if cut == chunk.len() {
+                        (0..=needed).collect()
+                    } else {
+                        vec![needed + 2]
+                    }
+                });
+            run.tally.see("chunk, cut", label(&followed.told));
+            run.tally.calls += 1;
         }
         run.tally
     }
@@ -635,6 +723,18 @@ fn answer(told: &Told, operation: &Operation) -> String {
         (0, Operation::AcknowledgeDefunct { .. }, 0) => "0 false".to_owned(),
         _ => label(told),
     }
+}
+
+/// The same of a chunk.
+fn check_run(run: &cablegorse::Run, due: &boundary::Run, spare: &Replica) {
+    let followed = &due.followed;
+    assert_eq!(run.stop.map_or(0, |r| r.number()), followed.told.number);
+    assert_eq!(run.place as u64, followed.place);
+    assert_eq!(
+        (run.read as u64, run.applied as u64),
+        (followed.read, followed.applied)
+    );
+    assert_eq!(spare.image(), due.next);
 }
 
 /// The wrapper says what the boundary said, and keeps the image that was written.

@@ -1,7 +1,9 @@
 // SPDX-License-Identifier: Apache-2.0
 //! The takeover drill: a primary and a spare in two processes joined by a pipe, with a link
-//! between that loses, repeats, delays and reorders records by a seed. The primary is killed at
-//! a random moment and the spare takes over; its image is held to the primary's byte for byte.
+//! between that loses, repeats, delays and reorders records by a seed. The spare applies record by
+//! record in some rounds and follows what a read brought as a whole in others. The primary is
+//! killed at a random moment and the spare takes over; its image is held to the primary's byte for
+//! byte.
 //!
 //! ```text
 //! drill [TAKEOVERS] [SEED]
@@ -74,13 +76,15 @@ fn begin() -> Replica {
 
 fn summary(sums: &Sums, seed: u64, start: Instant) {
     println!(
-        "link: {} lost, {} repeated, {} delayed; spare: {} Repeat, {} Ahead, {} resends asked for, {} torn ends",
+        "link: {} lost, {} repeated, {} delayed; spare: {} Repeat, {} Ahead, {} resends asked for, {} chunks followed whole and {} cut, {} torn ends",
         sums.link.lost,
         sums.link.repeated,
         sums.link.delayed,
         sums.repeats,
         sums.aheads,
         sums.resends,
+        sums.chunks - sums.cut,
+        sums.cut,
         sums.torn
     );
     println!(

@@ -12,7 +12,7 @@ use std::{
     time::Duration,
 };
 
-use cablegorse::{Active, Coverage, Lock, LockId, Operation, Refusal, Replica, Scope};
+use cablegorse::{Active, Coverage, Lock, LockId, Operation, Refusal, Replica, Run, Scope};
 
 use drill::{
     link::{self, Link, Weather},
@@ -20,7 +20,7 @@ use drill::{
     work,
 };
 
-use crate::wire::{Entry, Wish, records};
+use crate::wire::{Entry, Wish, records, sequence};
 
 /// What a round, or many, saw.
 #[derive(Default)]
@@ -32,6 +32,8 @@ pub struct Sums {
     pub aheads: u64,
     pub link: link::Done,
     pub resends: u64,
+    pub chunks: u64,
+    pub cut: u64,
     pub torn: u64,
     pub behind: u64,
     pub most_behind: u64,
@@ -56,6 +58,28 @@ enum Death {
     Arrivals(usize),
     /// After so many microseconds, whatever is going on.
     Time(u64),
+}
+
+/// What a round's spare has got so far.
+struct Intake {
+    /// Where what a read brings is followed as a whole, the source of its cuts; none where it is
+    /// applied record by record.
+    cuts: Option<Rng>,
+    /// What has arrived and isn't followed yet.
+    inbox: Vec<u8>,
+    /// The records that were applied.
+    applied: Vec<Vec<u8>>,
+    /// Records ahead since one was applied.
+    quiet: u32,
+}
+
+impl Intake {
+    /// A record ahead: whether to ask, at the first gap and again when asking seems to have been
+    /// lost.
+    fn asks(&mut self) -> bool {
+        self.quiet += 1;
+        self.quiet % 16 == 1
+    }
 }
 
 fn failed(what: &str, error: &io::Error) -> String {
@@ -83,7 +107,13 @@ impl Side<'_> {
         };
         // Records that were under way when the primary died get through, or not.
         let drains = rng.percent(70);
-        let applied = self.follow(child, to, &mut link, &death, drains)?;
+        let intake = Intake {
+            cuts: rng.percent(50).then(|| Rng::new(rng.word())),
+            inbox: Vec::new(),
+            applied: Vec::new(),
+            quiet: 0,
+        };
+        let applied = self.follow(child, to, intake, &mut link, &death, drains)?;
         self.sums.link.lost += link.done.lost;
         self.sums.link.repeated += link.done.repeated;
         self.sums.link.delayed += link.done.delayed;
@@ -116,6 +146,7 @@ impl Side<'_> {
         &mut self,
         mut child: Child,
         mut to: ChildStdin,
+        mut intake: Intake,
         link: &mut Link,
         death: &Death,
         drains: bool,
@@ -132,9 +163,14 @@ impl Side<'_> {
                 }))
             }
         };
+        let mut tell = |wish: Option<Wish>| {
+            if let Some(wish) = wish {
+                // A dead primary doesn't hear it.
+                let _ = to.write_all(&wish.encode());
+            }
+        };
         let mut arrived = Vec::new();
-        let mut applied = Vec::new();
-        let (mut arrivals, mut quiet, mut dead) = (0, 0, false);
+        let (mut arrivals, mut dead) = (0, false);
         if matches!(death, Death::Arrivals(0)) {
             kill(&child);
             dead = true;
@@ -154,10 +190,10 @@ impl Side<'_> {
                 }
                 arrivals += 1;
                 for record in link.carry(record) {
-                    let wish = self.step(&record, &mut applied, &mut quiet)?;
-                    if let Some(wish) = wish {
-                        // A dead primary doesn't hear it.
-                        let _ = to.write_all(&wish.encode());
+                    if intake.cuts.is_some() {
+                        intake.inbox.extend(record);
+                    } else {
+                        tell(self.step(&record, &mut intake)?);
                     }
                 }
                 if !dead && matches!(death, Death::Arrivals(n) if arrivals >= *n) {
@@ -165,40 +201,110 @@ impl Side<'_> {
                     dead = true;
                 }
             }
-        }
-        if !arrived.is_empty() {
-            // It died in the middle of a record: no feed record yet, and so nothing happens.
-            self.sums.torn += 1;
-            let image = self.spare.image().to_vec();
-            let step = self.spare.apply(&arrived, 0);
-            if step.applied || self.spare.image() != image {
-                return Err("half a record was applied".to_owned());
+            if let Some(cuts) = &mut intake.cuts {
+                // A read may end anywhere.
+                let length = intake.inbox.len();
+                let some = if cuts.percent(30) {
+                    cuts.below(length + 1)
+                } else {
+                    length
+                };
+                tell(self.chunk(&mut intake, some)?);
             }
         }
+        self.last(&mut intake, &arrived)?;
         if let Some(killer) = killer {
             killer.join().map_err(|_| "the killer failed".to_owned())?;
         }
         let mut child = child.lock().map_err(|_| "the killer failed".to_owned())?;
         child.wait().map_err(|e| failed("the primary's end", &e))?;
-        Ok(applied)
+        Ok(intake.applied)
+    }
+
+    /// The pipe has ended, perhaps in the middle of a record: no feed record yet, and so nothing
+    /// happens.
+    fn last(&mut self, intake: &mut Intake, torn: &[u8]) -> Outcome {
+        self.sums.torn += u64::from(!torn.is_empty());
+        if intake.cuts.is_some() {
+            intake.inbox.extend(torn);
+            let all = intake.inbox.len();
+            self.chunk(intake, all)?;
+            if intake.inbox != torn {
+                return Err("a chunk left more than half a record".to_owned());
+            }
+        } else if !torn.is_empty() {
+            let image = self.spare.image().to_vec();
+            let step = self.spare.apply(torn, 0);
+            if step.applied || self.spare.image() != image {
+                return Err("half a record was applied".to_owned());
+            }
+        }
+        Ok(())
+    }
+
+    fn wish(&self, resend: bool) -> Wish {
+        Wish {
+            expected: self.spare.expected(),
+            resend,
+        }
+    }
+
+    /// So much of the inbox as one chunk. The run is held to what its records' numbers say; a
+    /// record that is cut stays for the next one.
+    fn chunk(&mut self, intake: &mut Intake, length: usize) -> Result<Option<Wish>, String> {
+        let mut due = self.spare.expected();
+        let image = self.spare.image().to_vec();
+        let run = self.spare.follow(&intake.inbox[..length]);
+        let mut rest = intake.inbox[..length].to_vec();
+        let mut counted = Run {
+            read: 0,
+            applied: 0,
+            place: 0,
+            stop: None,
+        };
+        let mut asks = false;
+        for record in records(&mut rest) {
+            counted.read += 1;
+            counted.place += record.len();
+            match sequence(&record).wrapping_sub(due) {
+                0 => {
+                    counted.applied += 1;
+                    self.sums.wraps += u64::from(due == u32::MAX);
+                    due = due.wrapping_add(1);
+                    intake.applied.push(record);
+                    intake.quiet = 0;
+                }
+                1..0x8000_0000 => {
+                    self.sums.aheads += 1;
+                    asks |= intake.asks();
+                }
+                _ => self.sums.repeats += 1,
+            }
+        }
+        if !rest.is_empty() {
+            self.sums.cut += 1;
+            let offset = counted.place;
+            counted.stop = Some(Refusal::Torn { offset });
+        }
+        if run != counted || self.spare.expected() != due {
+            return Err(format!("a chunk gave {run:?}, its numbers {counted:?}"));
+        }
+        if run.applied == 0 && self.spare.image() != image {
+            return Err("a chunk without the record that is due changed the state".to_owned());
+        }
+        one_subject_each(&self.spare)?;
+        intake.inbox.drain(..run.place);
+        self.sums.chunks += 1;
+        self.sums.applied += run.applied as u64;
+        self.sums.resends += u64::from(asks);
+        Ok((asks || run.applied > 0).then(|| self.wish(asks)))
     }
 
     /// One arrival. What isn't in turn leaves every byte as it is.
-    fn step(
-        &mut self,
-        record: &[u8],
-        applied: &mut Vec<Vec<u8>>,
-        quiet: &mut u32,
-    ) -> Result<Option<Wish>, String> {
+    fn step(&mut self, record: &[u8], intake: &mut Intake) -> Result<Option<Wish>, String> {
         let expected = self.spare.expected();
         let image = self.spare.image().to_vec();
         let step = self.spare.apply(record, 0);
-        let wish = |spare: &Replica, resend| {
-            Some(Wish {
-                expected: spare.expected(),
-                resend,
-            })
-        };
         if step.applied {
             if step.sequence != expected || self.spare.expected() != expected.wrapping_add(1) {
                 return Err(format!(
@@ -209,9 +315,9 @@ impl Side<'_> {
             one_subject_each(&self.spare)?;
             self.sums.applied += 1;
             self.sums.wraps += u64::from(expected == u32::MAX);
-            applied.push(record.to_vec());
-            *quiet = 0;
-            return Ok(wish(&self.spare, false).filter(|w| w.expected.is_multiple_of(4)));
+            intake.applied.push(record.to_vec());
+            intake.quiet = 0;
+            return Ok(Some(self.wish(false)).filter(|w| w.expected.is_multiple_of(4)));
         }
         if self.spare.image() != image {
             return Err(format!("{:?} changed the state", step.answer));
@@ -223,11 +329,9 @@ impl Side<'_> {
             }
             Err(Refusal::Ahead { .. }) => {
                 self.sums.aheads += 1;
-                // Ask at the first gap, and again when asking seems to have been lost.
-                *quiet += 1;
-                let ask = *quiet % 16 == 1;
-                self.sums.resends += u64::from(ask);
-                Ok(wish(&self.spare, true).filter(|_| ask))
+                let asks = intake.asks();
+                self.sums.resends += u64::from(asks);
+                Ok(asks.then(|| self.wish(true)))
             }
             other => Err(format!("a whole record gave {other:?}")),
         }

@@ -17,6 +17,11 @@ pub fn records(arrived: &mut Vec<u8>) -> Vec<Vec<u8>> {
     records
 }
 
+/// The number of a whole record.
+pub fn sequence(record: &[u8]) -> u32 {
+    u32::from_le_bytes([record[4], record[5], record[6], record[7]])
+}
+
 /// From the spare to the primary: the number it expects, and whether it misses that record.
 #[derive(Clone, Copy, Debug, PartialEq, Eq)]
 pub struct Wish {

@@ -98,25 +98,34 @@ fn a_backup_by_arrival_drifts() {
         );
         let mut primary = Replica::empty();
         let (mut backup, mut spare) = (Backup(Replica::empty()), Replica::empty());
+        // A second spare, which follows as chunks what the first applies record by record.
+        let mut whole = Replica::empty();
         let mut book: Vec<Vec<u8>> = Vec::new();
         for clock in 0..60 {
             let operation = work::operation(rng, &primary, 1000 + clock);
             let (record, _) = primary.perform(&operation).unwrap();
             book.push(record.clone());
-            for arrival in link.carry(record) {
+            let arrivals = link.carry(record);
+            assert_eq!(whole.follow(&arrivals.concat()).read, arrivals.len());
+            for arrival in arrivals {
                 backup.apply(&arrival);
                 spare.apply(&arrival, 0);
             }
+            assert_eq!(whole, spare, "seed {seed}");
         }
         // The primary resends from the number that the spare expects, over the same link, until
         // it has everything. A backup by arrival asks for nothing; it gets the same records.
         while (spare.expected() as usize) < book.len() {
+            let mut chunk = Vec::new();
             for record in &book[spare.expected() as usize..] {
                 for arrival in link.carry(record.clone()) {
                     backup.apply(&arrival);
                     spare.apply(&arrival, 0);
+                    chunk.extend(arrival);
                 }
             }
+            whole.follow(&chunk);
+            assert_eq!(whole, spare, "seed {seed}");
         }
         assert_eq!(spare.image(), primary.image(), "seed {seed}");
         drifted += u64::from(locks(&backup.0) != locks(&primary));

@@ -9,7 +9,7 @@
 use std::{ffi::c_void, ptr};
 
 use cablegorse::library;
-use differential::pair::{applied, told};
+use differential::pair::{applied, followed, told};
 use oracle::boundary;
 
 unsafe extern "C" {
@@ -95,12 +95,13 @@ pub unsafe extern "C" fn LLVMFuzzerTestOneInput(data: *const u8, size: usize) ->
     if first.len() > ROOM || second.len() > ROOM {
         return 0;
     }
-    match function % 6 {
+    match function % 7 {
         0 | 1 => apply(first, second, usize::from(*extra), *choice),
         2 => read(first, second, u32::from(*extra), *choice),
         3 => delete_defunct(first, second, *choice),
         4 => test(first, u64::from(*extra)),
-        _ => names(first, second, *extra, *choice),
+        5 => names(first, second, *extra, *choice),
+        _ => follow(first, second, *choice),
     }
     0
 }
@@ -139,6 +140,23 @@ fn apply(image: &[u8], feed: &[u8], at: usize, choice: u8) {
         let tested = library::test(image);
         assert_eq!(tested.number, 0, "an image it wrote itself");
         assert_eq!(tested.values[1] as u32, got.sequence.wrapping_add(1));
+    }
+}
+
+fn follow(image: &[u8], chunk: &[u8], choice: u8) {
+    let length = length(choice, 19_156);
+    let [i, f, n, ..] = &*FENCES;
+    let next = n.slice(length, 0xa5);
+    let got = followed(library::follow(i.holding(image), f.holding(chunk), next));
+    let mut theirs = vec![0xa5; length];
+    let due = boundary::follow(image, chunk, &mut theirs);
+    assert_eq!(got, due, "follow");
+    assert!(theirs == next, "follow's buffer");
+    if matches!(got.part, 1 | 2) {
+        // What it wrote is an image, and expects what it says.
+        let tested = library::test(&next[..got.written as usize]);
+        assert_eq!(tested.number, 0, "an image it wrote itself");
+        assert_eq!(tested.values[1] as u32, got.expected);
     }
 }
 

@@ -164,6 +164,88 @@ pub fn step(judge: &Judge, expected: u32, feed: &[u8], at: usize) -> Full {
     full
 }
 
+/// What following a chunk gives.
+#[derive(Clone, Copy, Debug, PartialEq, Eq, Default)]
+pub struct Followed {
+    pub told: Told,
+    /// 0 image refused, 1 a record can't be read, 2 the chunk ended, 3 the output too short.
+    pub part: u32,
+    pub expected: u32,
+    pub place: u64,
+    pub read: u64,
+    pub applied: u64,
+    pub written: u64,
+}
+
+/// The answer and the bytes that belong into the output, before its length is looked at.
+#[derive(Clone, Debug, PartialEq, Eq, Default)]
+pub struct Run {
+    pub followed: Followed,
+    pub next: Vec<u8>,
+}
+
+impl Run {
+    /// Puts the image into the buffer, or says that it is too short.
+    pub fn put(&self, next: &mut [u8]) -> Followed {
+        let needed = self.next.len();
+        if needed > next.len() {
+            return Followed {
+                told: Told::new(21, &[needed as u64]),
+                part: 3,
+                ..Followed::default()
+            };
+        }
+        next[..needed].copy_from_slice(&self.next);
+        self.followed
+    }
+}
+
+/// `cablegorse_follow`.
+pub fn follow(image: &[u8], chunk: &[u8], next: &mut [u8]) -> Followed {
+    match wire::read_image(image) {
+        Err(refusal) => Followed {
+            told: Told::refused(refusal),
+            ..Followed::default()
+        },
+        Ok((state, expected)) => run(Spare { state, expected }, chunk).put(next),
+    }
+}
+
+/// The same on a spare whose state is sound: one step after another.
+#[must_use]
+pub fn run(mut spare: Spare, chunk: &[u8]) -> Run {
+    let (mut at, mut read, mut applied) = (0, 0, 0);
+    let mut stop = None;
+    while at < chunk.len() {
+        let step = judge::feed_step(&spare, chunk, at);
+        match step.event {
+            Event::Refused(refusal) => {
+                stop = Some(refusal);
+                break;
+            }
+            Event::Repeat { .. } | Event::Ahead { .. } => {}
+            Event::Applied { .. } => applied += 1,
+        }
+        read += 1;
+        (spare, at) = (step.spare, step.next);
+    }
+    let next = wire::write_image(&spare.state, spare.expected).expect("a sound state stays sound");
+    let (told, part) = match stop {
+        Some(refusal) => (Told::refused(refusal), 1),
+        None => (Told::default(), 2),
+    };
+    let followed = Followed {
+        told,
+        part,
+        expected: spare.expected,
+        place: at as u64,
+        read,
+        applied,
+        written: next.len() as u64,
+    };
+    Run { followed, next }
+}
+
 /// Kind and number to a scope.
 #[must_use]
 pub fn scope(kind: u64, number: u64) -> Option<Scope> {

@@ -3,6 +3,7 @@
 
 use oracle::{
     answer::Refusal,
+    boundary::{Followed, Told, follow},
     generate::{Case, Profile, Rng},
     judge::{Event, Spare, feed_step, replay, step_image},
     model::{Active, Coverage, Id, IdList, Lock, Operation, Scope, State},
@@ -32,6 +33,46 @@ fn replay_at_its_edges() {
     let mut torn = sample();
     torn.pop();
     assert_eq!(replay(&torn), "0 3 0 0 0\n2 16 0 0 0\nbad 17 40\n");
+}
+
+/// The sample as one chunk, by hand: two of three records are in turn.
+#[test]
+fn the_sample_followed_whole() {
+    let (feed, image) = (sample(), write_image(&State::default(), 0).unwrap());
+    let after = write_image(&State::default(), 2).unwrap();
+    let whole = Followed {
+        told: Told::default(),
+        part: 2,
+        expected: 2,
+        place: 56,
+        read: 3,
+        applied: 2,
+        written: 20,
+    };
+    let mut next = [7; 21];
+    assert_eq!(follow(&image, &feed, &mut next), whole);
+    assert_eq!(next.to_vec(), [after, vec![7]].concat());
+
+    // Without its last byte: what came before stays.
+    let torn = Followed {
+        told: Told::new(17, &[40]),
+        part: 1,
+        expected: 1,
+        place: 40,
+        read: 2,
+        applied: 1,
+        written: 20,
+    };
+    assert_eq!(follow(&image, &feed[..55], &mut next), torn);
+    assert_eq!(next[12], 1);
+
+    let refused = |number, value, part| Followed {
+        told: Told::new(number, &[value]),
+        part,
+        ..Followed::default()
+    };
+    assert_eq!(follow(&image, &feed, &mut [0; 19]), refused(21, 20, 3));
+    assert_eq!(follow(&[], &feed, &mut next), refused(17, 0, 0));
 }
 
 /// One sound state with everything an image can hold.

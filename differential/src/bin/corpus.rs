@@ -1,5 +1,6 @@
 // SPDX-License-Identifier: Apache-2.0
-//! Writes first inputs for the fuzzer: small sound states with a record, a read or a deletion.
+//! Writes first inputs for the fuzzer: small sound states with a record, a chunk of records, a
+//! read or a deletion.
 //!
 //! ```text
 //! corpus FOLDER [INPUTS]
@@ -41,7 +42,7 @@ fn input(seed: u64) -> Vec<u8> {
     let case = Case::of(&mut rng, profile);
     let expected = [0, 5, u32::MAX][rng.below(3)];
     let image = wire::write_image(&case.state, expected).expect("a sound state");
-    let (function, extra, rest) = match rng.below(4) {
+    let (function, extra, rest) = match rng.below(5) {
         0 => {
             let kind = rng.below(14);
             let read = generate::read_of(&mut rng, &case, kind);
@@ -52,6 +53,7 @@ fn input(seed: u64) -> Vec<u8> {
             (2, question as u8, rest)
         }
         1 => (3, 0, deletion(&generate::operation_of(&mut rng, &case, 8))),
+        2 => (6, 0, generate::feed(&mut rng, &case, expected, 5)),
         _ => (0, 0, generate::feed(&mut rng, &case, expected, 2)),
     };
     let mut bytes = vec![function, 2 + 8 * 5, extra];

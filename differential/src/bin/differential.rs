@@ -232,7 +232,19 @@ fn bytes_part(threads: u64) -> Option<Tally> {
     })?;
     tally.add(&of_lengths);
     tally.add(&guarded("argument", 0, || Run::every_argument(&image))?);
+    let chunk = in_turn(&records);
+    tally.add(&guarded("chunk", 0, || Run::every_cut(&image, &chunk))?);
     Some(tally)
+}
+
+/// Records as a chunk, each with the number after the one before it, and the first two again.
+fn in_turn(records: &[Vec<u8>]) -> Vec<u8> {
+    let mut records = records.to_vec();
+    let first = u32::from_le_bytes(records[0][4..8].try_into().expect("4 bytes"));
+    for (number, record) in (first..).zip(&mut records) {
+        record[4..8].copy_from_slice(&number.to_le_bytes());
+    }
+    [&records, &records[..2]].concat().concat()
 }
 
 fn whole(operations: u64, seed: u64, threads: u64) -> ExitCode {
@@ -241,7 +253,7 @@ fn whole(operations: u64, seed: u64, threads: u64) -> ExitCode {
         return ExitCode::FAILURE;
     };
     println!(
-        "every byte of an image and of a record of each kind, every length, every argument: {} calls, no difference ({:.0} s)",
+        "every byte of an image and of a record of each kind, every length, every argument, every cut of a chunk: {} calls, no difference ({:.0} s)",
         sum.calls + sum.operations,
         start.elapsed().as_secs_f64()
     );
