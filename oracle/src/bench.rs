@@ -7,7 +7,40 @@ use crate::model::{
 };
 
 /// Active and defunct locks of the states timed.
-pub const SIZES: [(usize, usize); 5] = [(1, 0), (16, 0), (64, 0), (16, 128), (64, 128)];
+pub const SIZES: [(usize, usize); 4] = [(1, 0), (16, 0), (64, 0), (64, 128)];
+
+/// What is timed in one cell of a table.
+pub struct Cell {
+    pub state: State,
+    pub operation: Operation,
+}
+
+/// Each operation's name and its cells, one for each of [`SIZES`]. An insertion is timed at 63
+/// active locks for 64 and a replacement at 127 defunct ones for 128: where the tables are full
+/// the library refuses them (13), and the original, which has no limits, does them.
+#[must_use]
+pub fn rows() -> Vec<(&'static str, Vec<Cell>)> {
+    (0..operations(1, 0).len())
+        .map(|row| {
+            let cells = SIZES.iter().map(|size| cell(row, *size)).collect();
+            (operations(1, 0)[row].name(), cells)
+        })
+        .collect()
+}
+
+fn cell(row: usize, (active, defunct): (usize, usize)) -> Cell {
+    let (active, defunct) = match operations(1, 0)[row] {
+        Operation::InsertActive { .. } | Operation::InsertVehicle { .. } => {
+            (active.min(63), defunct)
+        }
+        Operation::CommitReplacement { .. } => (active, defunct.min(127)),
+        _ => (active, defunct),
+    };
+    Cell {
+        state: state(active, defunct),
+        operation: operations(active, defunct).swap_remove(row),
+    }
+}
 
 /// Four subjects hold one ECU each in turn; half of the defunct locks point at active ones, half
 /// at the next defunct one. Everything expires at 1000.
@@ -74,7 +107,7 @@ fn defunct_lock(place: usize, active: usize, defunct: usize) -> Defunct {
 }
 
 /// One call of each operation that goes through on [`state`] (`false` or an empty list where
-/// there is nothing defunct). At 64 active locks an insertion ends in 13 under the limits.
+/// there is nothing defunct). Where the tables are full, insertion and replacement end in 13.
 #[must_use]
 pub fn operations(active: usize, defunct: usize) -> Vec<Operation> {
     let (middle, entry) = (active / 2, defunct_lock_at(defunct / 2));

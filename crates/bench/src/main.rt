@@ -1,6 +1,6 @@
-// What bench/run times. Standard input: a byte that says what is timed, a byte k for 2^k turns, then an image. Each turn's
-// revision comes from the turn before, so that no turn can be left out; what is printed is the last one's sum. With 16 more in
-// the first byte it is the answer of one call.
+// What bench/run times and bench/copies counts. Standard input: a byte that says what is timed, a byte k for 2^k turns, then an
+// image. Each turn's revision comes from the turn before, so that no turn can be left out; what is printed is the sum over all.
+// With 16 more in the first byte it is the answer of one call.
 // SPDX-License-Identifier: Apache-2.0
 use ids::LockId;
 use image::Spare;
@@ -26,13 +26,32 @@ use state::Lock;
 use state::LockState;
 use state::ScopeKey;
 
-fn sum(s: LockState) -> u64 {
-    std::num::wrapping_add_u64(s.revision, s.actives as u64)
+fn plus(x: u64, y: u64) -> u64 {
+    std::num::wrapping_add_u64(x, y)
 }
 
-fn tested(s: LockState) -> u64 {
+fn words_of_lock(l: Lock) -> u64 {
+    let id = l.id;
+    plus(
+        plus(id.hi, id.lo),
+        plus(l.subject as u64, l.metadata as u64),
+    )
+}
+
+// Some words of what a turn left: of one lock and one entry, at places that only the sum so far tells. So all of it must be
+// there, and no copy of it can be left out.
+fn sum(s: LockState, total: u64) -> u64 {
+    let a = s.active[(total % 64) as usize];
+    let d = s.defunct[(total % 128) as usize];
+    let counts = plus(s.actives as u64, s.defuncts as u64);
+    let times = plus(a.expires, d.expires);
+    let locks = plus(words_of_lock(a.lock), words_of_lock(d.lock));
+    plus(plus(s.revision, counts), plus(times, locks))
+}
+
+fn tested(s: LockState, total: u64) -> u64 {
     match rules::broken(s) {
-        Verdict::Sound => sum(s),
+        Verdict::Sound => sum(s, total),
         Verdict::Broken(n) => n as u64,
     }
 }
@@ -105,39 +124,39 @@ fn expire_defunct(s: LockState) -> DefunctsExpired {
     acknowledge::expire_defunct(s, 18446744073709551615)
 }
 
-fn changed(s: LockState, what: u8) -> u64 {
+fn changed(s: LockState, what: u8, total: u64) -> u64 {
     match what {
         2 => {
             let r = insert_active(s);
-            sum(r.state)
+            sum(r.state, total)
         }
         3 => {
             let r = insert_vehicle(s);
-            sum(r.state)
+            sum(r.state, total)
         }
         4 => {
             let r = renew(s);
-            sum(r.state)
+            sum(r.state, total)
         }
         5 => {
             let r = delete(s);
-            sum(r.state)
+            sum(r.state, total)
         }
         6 => {
             let r = begin_expiration(s);
-            sum(r.state)
+            sum(r.state, total)
         }
         7 => {
             let r = commit_replacement(s);
-            sum(r.state)
+            sum(r.state, total)
         }
         8 => {
             let r = acknowledge_defunct(s);
-            sum(r.state)
+            sum(r.state, total)
         }
         _ => {
             let r = expire_defunct(s);
-            sum(r.state)
+            sum(r.state, total)
         }
     }
 }
@@ -192,14 +211,14 @@ fn answered(s: LockState, what: u8) -> u64 {
 }
 
 // 0 is the loop alone, 1 the test, the others are the operations.
-fn one(s: LockState, what: u8) -> u64 {
+fn one(s: LockState, what: u8, total: u64) -> u64 {
     if what == 0 {
-        return sum(s);
+        return sum(s, total);
     }
     if what == 1 {
-        return tested(s);
+        return tested(s, total);
     }
-    changed(s, what)
+    changed(s, what, total)
 }
 
 fn turns(s: LockState, what: u8, n: u64) -> u64 {
@@ -208,7 +227,7 @@ fn turns(s: LockState, what: u8, n: u64) -> u64 {
     let mut i = 0u64;
     while i < n {
         a.revision = total % 1048576;
-        total = std::num::wrapping_add_u64(total, one(a, what));
+        total = std::num::wrapping_add_u64(total, one(a, what, total));
         i += 1;
     }
     total
@@ -239,7 +258,7 @@ fn read_once(bytes: &mut [u8], total: u64) -> u64 {
     bytes[layout::FRAME] = low(total);
     let r = image::read::read_image(bytes);
     let spare = r.spare;
-    sum(spare.state)
+    sum(spare.state, total)
 }
 
 fn reads(bytes: &mut [u8], n: u64) -> u64 {

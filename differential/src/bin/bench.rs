@@ -1,6 +1,8 @@
 // SPDX-License-Identifier: Apache-2.0
 //! Times the by-feed boundary beside the original, in one run: each operation at four sizes, and
-//! a feed of 65,536 bytes. For bench/stack it makes one call in a thread of a given size.
+//! two feeds of 65,536 bytes, record by record and each in one call. For bench/stack it makes one
+//! call in a thread of a given size. A ratio is the original's time / the library's: above 1 the
+//! library is faster. Beside the ratios stand the aims of docs/BENCH.md.
 //!
 //! Ours is `cablegorse_apply` whole: image read and tested, record read, operation, next image
 //! and removed locks written. The original's is the operation alone on its own types, which
@@ -11,6 +13,9 @@
 //! bench [MILLISECONDS A CELL]
 //! bench stack                 names the calls, with their answers at the three sizes
 //! bench stack BYTES CALL      makes one, by its place from 0, in a thread of so many bytes
+//! bench call ROW SIZE TURNS   makes a call of the table so many times, for bench/copies; the row
+//!                             after the last are the feeds, by apply and by follow: prints the
+//!                             records of one turn
 //! ```
 
 use std::{
@@ -26,7 +31,7 @@ use cablegorse::{
     library::{self, EXPIRED_LIMIT, IMAGE_LIMIT, REMOVED_LIMIT},
 };
 use oracle::{
-    bench::{operations, state},
+    bench::{Cell, SIZES, operations, rows, state},
     generate::{self, Case, Profile, Rng},
     judge::Judge,
     model::{Coverage, Id, IdList, Operation, Scope, State},
@@ -34,7 +39,10 @@ use oracle::{
     wire,
 };
 
-const SIZES: [(usize, usize); 5] = [(1, 0), (16, 0), (64, 0), (16, 128), (64, 128)];
+/// Ratios that renewal and deletion are to reach, by size.
+const AIMS: [f64; 4] = [0.09, 1.0, 3.0, 6.0];
+/// Ratios that a feed followed in one call is to reach: on small states, on full ones.
+const CHUNK_AIMS: [f64; 2] = [0.6, 20.0];
 /// Calls timed together: enough to hide the clock, few enough to stay in the cache.
 const BATCH: usize = 4;
 const FEED_LIMIT: usize = 65_536;
@@ -50,8 +58,15 @@ fn main() -> ExitCode {
     {
         return on_a_stack_of(bytes, row);
     }
+    if let ["call", row, size, turns] = words[..]
+        && let (Ok(row), Ok(size), Ok(turns)) = (row.parse(), size.parse(), turns.parse())
+    {
+        return calls(row, size, turns);
+    }
     let Ok(cell) = words.first().map_or(Ok(300), |word| word.parse()) else {
-        eprintln!("bench [MILLISECONDS A CELL], bench stack [BYTES CALL]");
+        eprintln!(
+            "bench [MILLISECONDS A CELL], bench stack [BYTES CALL], bench call ROW SIZE TURNS"
+        );
         return ExitCode::from(2);
     };
     operations_table(Duration::from_millis(cell));
@@ -59,10 +74,11 @@ fn main() -> ExitCode {
     ExitCode::SUCCESS
 }
 
-/// What the library is given for one operation.
+/// What the library is given for one operation, or to follow a chunk.
 struct Ours {
     image: Vec<u8>,
-    operation: Operation,
+    /// None: the record is a chunk.
+    operation: Option<Operation>,
     record: Vec<u8>,
     next: Vec<u8>,
     removed: Vec<u8>,
@@ -70,11 +86,22 @@ struct Ours {
 }
 
 impl Ours {
-    fn new(active: usize, defunct: usize, operation: &Operation) -> Self {
+    fn new(state: &State, operation: &Operation) -> Self {
+        let record = wire::write_feed(operation, 0).unwrap_or_default();
+        Self::of(state, Some(operation.clone()), record)
+    }
+
+    /// The same in a chunk of one record.
+    fn chunk(state: &State, operation: &Operation) -> Self {
+        let record = wire::write_feed(operation, 0).unwrap_or_default();
+        Self::of(state, None, record)
+    }
+
+    fn of(state: &State, operation: Option<Operation>, record: Vec<u8>) -> Self {
         Self {
-            image: wire::write_image(&state(active, defunct), 0).expect("a sound state"),
-            operation: operation.clone(),
-            record: wire::write_feed(operation, 0).unwrap_or_default(),
+            image: wire::write_image(state, 0).expect("a sound state"),
+            operation,
+            record,
             next: vec![0; IMAGE_LIMIT],
             removed: vec![0; REMOVED_LIMIT],
             expired: vec![0; EXPIRED_LIMIT],
@@ -82,7 +109,12 @@ impl Ours {
     }
 
     fn call(&mut self) -> u32 {
-        if let Operation::DeleteDefunct { id, scope, subject } = &self.operation {
+        if self.operation.is_none() {
+            return library::follow(&self.image, &self.record, &mut self.next)
+                .told
+                .number;
+        }
+        if let Some(Operation::DeleteDefunct { id, scope, subject }) = &self.operation {
             let scope = match scope {
                 Scope::Vehicle => (0, 0),
                 Scope::Ecu(ecu) => (1, *ecu),
@@ -131,42 +163,93 @@ fn tenth(mut times: Vec<Duration>) -> f64 {
     times[times.len() / 10].as_nanos() as f64 / BATCH as f64
 }
 
-fn operations_table(cell: Duration) {
-    println!("ns a call (tenth percentile): library by feed, original, original / library");
-    print!("{:<22}", "");
+/// What a cell took in ns a call, the library and the original, and the library's answer.
+struct Times {
+    ours: f64,
+    original: f64,
+    answer: u32,
+}
+
+impl Times {
+    fn ratio(&self) -> f64 {
+        self.original / self.ours
+    }
+
+    fn shown(&self) -> String {
+        let note = match self.answer {
+            0 => String::new(),
+            number => format!("({number})"),
+        };
+        let (ours, original) = (self.ours, self.original);
+        format!("{ours:.0} {original:.0} {:.2}{note}", self.ratio())
+    }
+}
+
+fn timed(of: &Cell, time: Duration) -> Times {
+    let mut ours = Ours::new(&of.state, &of.operation);
+    let original = Original::new(&of.state);
+    let answer = ours.call();
+    let (mut mine, mut theirs) = (Vec::new(), Vec::new());
+    let start = Instant::now();
+    while start.elapsed() < time || mine.len() < 50 {
+        mine.push(ours.batch());
+        theirs.push(original_batch(&original, &of.operation));
+    }
+    Times {
+        ours: tenth(mine),
+        original: tenth(theirs),
+        answer,
+    }
+}
+
+/// A ratio beside its aim.
+fn held(ratio: f64, aim: f64) -> String {
+    if ratio < aim {
+        format!(
+            "{ratio:.2} of {aim}, {:.1}% short",
+            100.0 - 100.0 * ratio / aim
+        )
+    } else {
+        format!("{ratio:.2} of {aim}, met")
+    }
+}
+
+fn heading(title: &str) {
+    print!("{title:<22}");
     for (active, defunct) in SIZES {
-        print!("{:>26}", format!("{active}/{defunct}"));
+        print!("{:>24}", format!("{active}/{defunct}"));
     }
     println!();
-    for row in 0..operations(1, 0).len() {
-        print!("{:<22}", operations(1, 0)[row].name());
-        for (active, defunct) in SIZES {
-            let operation = &operations(active, defunct)[row];
-            let mut ours = Ours::new(active, defunct, operation);
-            let original = Original::new(&state(active, defunct));
-            let number = ours.call();
-            let (mut mine, mut theirs) = (Vec::new(), Vec::new());
-            let start = Instant::now();
-            while start.elapsed() < cell || mine.len() < 50 {
-                mine.push(ours.batch());
-                theirs.push(original_batch(&original, operation));
-            }
-            let (mine, theirs) = (tenth(mine), tenth(theirs));
-            let note = if number == 0 {
-                String::new()
-            } else {
-                format!("({number})")
-            };
-            print!(
-                "{:>26}",
-                format!("{mine:.0} {theirs:.0} {:.2}{note}", theirs / mine)
-            );
+}
+
+fn operations_table(cell: Duration) {
+    println!("ns a call (tenth percentile): library by feed, original, original / library;");
+    println!("insertions at 63 active locks for 64, replacement at 127 defunct ones for 128");
+    heading("");
+    let mut aims = Vec::new();
+    for (name, cells) in rows() {
+        print!("{name:<22}");
+        let mut row = Vec::new();
+        for of in &cells {
+            let times = timed(of, cell);
+            print!("{:>24}", times.shown());
+            row.push(times.ratio());
+        }
+        println!();
+        if matches!(name, "renew" | "delete") {
+            aims.push((name, row));
+        }
+    }
+    println!();
+    heading("original / library");
+    for (name, row) in aims {
+        print!("{name:<22}");
+        for (ratio, aim) in row.into_iter().zip(AIMS) {
+            print!("{:>24}", held(ratio, aim));
         }
         println!();
     }
-    println!(
-        "(13): at 64 active locks the library refuses what the original, without limits, does\n"
-    );
+    println!();
 }
 
 /// A feed of at most 65,536 bytes from empty, as bytes and as operations.
@@ -250,48 +333,90 @@ impl Feed {
     }
 }
 
+/// The spare after the feed, record by record or in one call, and what it took.
+fn spared(feed: &Feed, whole: bool) -> (Replica, Duration) {
+    let mut spare = Replica::empty();
+    let start = Instant::now();
+    if whole {
+        black_box(spare.follow(&feed.bytes));
+    } else {
+        let mut at = 0;
+        while at < feed.bytes.len() {
+            at = black_box(spare.apply(&feed.bytes, at)).place;
+        }
+    }
+    (spare, start.elapsed())
+}
+
+fn originals(feed: &Feed) -> Duration {
+    let mut original = Original::new(&State::default());
+    let calls: Vec<Call> = feed.operations.iter().filter_map(Call::new).collect();
+    let mut replies = Vec::with_capacity(calls.len());
+    let start = Instant::now();
+    for call in calls {
+        replies.push(black_box(original.call(call)));
+    }
+    start.elapsed()
+}
+
+/// The best of each, in turns, until the time is up.
 fn feeds(time: Duration) {
-    for (name, feed) in [
+    println!("records a second, a feed from empty: by apply, by follow in one call, the original");
+    let feeds = [
         ("mixed, small states", Feed::mixed()),
         ("64 locks held", Feed::busy()),
-    ] {
-        let Feed {
-            bytes, operations, ..
-        } = feed;
-        let (mut mine, mut theirs) = (Duration::MAX, Duration::MAX);
-        let mut ends = (0, 0);
+    ];
+    for ((name, feed), aim) in feeds.into_iter().zip(CHUNK_AIMS) {
+        let mut best = [Duration::MAX; 3];
         let start = Instant::now();
+        let mut ends = Replica::empty();
         while start.elapsed() < time {
-            let mut spare = Replica::empty();
-            let mut at = 0;
-            let clock = Instant::now();
-            while at < bytes.len() {
-                at = black_box(spare.apply(&bytes, at)).place;
+            let (one, by_record) = spared(&feed, false);
+            let (other, in_one) = spared(&feed, true);
+            assert_eq!(one, other, "the same feed, another state");
+            for (least, took) in best.iter_mut().zip([by_record, in_one, originals(&feed)]) {
+                *least = took.min(*least);
             }
-            mine = mine.min(clock.elapsed());
-            ends = (spare.active_count(), spare.defunct_count());
-            let mut original = Original::new(&State::default());
-            let calls: Vec<Call> = operations.iter().filter_map(Call::new).collect();
-            let mut replies = Vec::with_capacity(calls.len());
-            let clock = Instant::now();
-            for call in calls {
-                replies.push(black_box(original.call(call)));
-            }
-            theirs = theirs.min(clock.elapsed());
+            ends = other;
         }
-        let count = operations.len() as f64;
+        let count = feed.operations.len() as f64;
+        let [apply, follow, original] = best.map(|took| count / took.as_secs_f64());
         println!(
-            "feed of {} bytes, {} records ({name}; ends at {}/{}): library {:.0} records/s, original {:.0} records/s, ratio {:.2}",
-            bytes.len(),
-            operations.len(),
-            ends.0,
-            ends.1,
-            count / mine.as_secs_f64(),
-            count / theirs.as_secs_f64(),
-            theirs.as_secs_f64() / mine.as_secs_f64()
+            "{name} ({} bytes, {count} records, ends at {}/{}): {apply:.0}, {follow:.0}, {original:.0}",
+            feed.bytes.len(),
+            ends.active_count(),
+            ends.defunct_count(),
+        );
+        println!(
+            "    library / original: apply {:.2}; follow {}",
+            apply / original,
+            held(follow / original, aim),
         );
     }
     println!();
+}
+
+fn calls(row: usize, size: usize, turns: usize) -> ExitCode {
+    let rows = rows();
+    let mut records = 1;
+    if let Some((_, cells)) = rows.get(row) {
+        let mut ours = Ours::new(&cells[size].state, &cells[size].operation);
+        for _ in 0..turns {
+            black_box(ours.call());
+        }
+    } else {
+        let feed = if size < 2 {
+            Feed::mixed()
+        } else {
+            Feed::busy()
+        };
+        records = feed.operations.len();
+        for _ in 0..turns {
+            black_box(spared(&feed, size % 2 == 1));
+        }
+    }
+    println!("{records}");
+    ExitCode::SUCCESS
 }
 
 /// The timed operations, then two that supersede an entry: they go deepest.
@@ -324,12 +449,14 @@ fn superseding(mut operation: Operation, active: usize, defunct: usize) -> Opera
     operation
 }
 
-/// One operation on the largest states and a small one.
+/// One operation on the largest states and a small one; past the last all of them, followed.
 fn cells(row: usize) -> Vec<Ours> {
     let mut cells = Vec::new();
     for (active, defunct) in [(63, 128), (64, 128), (1, 0)] {
-        if let Some((_, operation)) = deep(active, defunct).get(row) {
-            cells.push(Ours::new(active, defunct, operation));
+        let (from, rows) = (state(active, defunct), deep(active, defunct));
+        match rows.get(row) {
+            Some((_, operation)) => cells.push(Ours::new(&from, operation)),
+            None => cells.extend(rows.iter().map(|(_, o)| Ours::chunk(&from, o))),
         }
     }
     cells
@@ -337,7 +464,8 @@ fn cells(row: usize) -> Vec<Ours> {
 
 /// A call that is refused may not go as deep as one that is done.
 fn name_calls() -> ExitCode {
-    for (row, (name, _)) in deep(1, 0).iter().enumerate() {
+    let calls = deep(1, 0).into_iter().map(|(name, _)| name);
+    for (row, name) in calls.chain(["follow, each of them"]).enumerate() {
         let mut cells = cells(row);
         let answers: Vec<String> = cells.iter_mut().map(|c| c.call().to_string()).collect();
         println!("{name}: {}", answers.join(", "));

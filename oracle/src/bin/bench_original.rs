@@ -2,6 +2,7 @@
 //! Times the original: nanoseconds a call, for each operation and size. States are cloned,
 //! arguments made and results dropped outside of the timed part; the original's own clone of its
 //! state is inside, since it is part of every operation. The clone alone stands in its own row.
+//! Insertions are timed at 63 active locks for 64, the replacement at 127 defunct ones for 128.
 //!
 //! ```text
 //! bench_original [MILLISECONDS A CELL]
@@ -14,7 +15,7 @@ use std::{
 };
 
 use oracle::{
-    bench::{SIZES, operations, state},
+    bench::{SIZES, rows, state},
     model::Operation,
     original::{Call, Original},
 };
@@ -36,23 +37,20 @@ fn main() {
         .and_then(|text| text.parse().ok())
         .unwrap_or(300);
     let cell = Duration::from_millis(cell);
-    let originals = SIZES.map(|(active, defunct)| Original::new(&state(active, defunct)));
-    let mut rows: Vec<(&str, Vec<Times>)> = Vec::new();
-    for row in 0..operations(1, 0).len() {
-        let timed = SIZES
+    let mut timed: Vec<(&str, Vec<Times>)> = Vec::new();
+    for (name, cells) in rows() {
+        let times = cells
             .iter()
-            .zip(&originals)
-            .map(|((active, defunct), original)| {
-                operation(original, &operations(*active, *defunct)[row], cell)
-            });
-        rows.push((operations(1, 0)[row].name(), timed.collect()));
+            .map(|timed| operation(&Original::new(&timed.state), &timed.operation, cell));
+        timed.push((name, times.collect()));
     }
-    let clone = originals
-        .iter()
-        .map(|original| rounds(cell, || clones(original)));
-    rows.push(("(clone and drop)", clone.collect()));
-    print("ns a call, median", &rows, |times| times.median);
-    print("ns a call, tenth", &rows, |times| times.tenth);
+    let clone = SIZES.map(|(active, defunct)| {
+        let original = Original::new(&state(active, defunct));
+        rounds(cell, || clones(&original))
+    });
+    timed.push(("(clone and drop)", clone.to_vec()));
+    print("ns a call, median", &timed, |times| times.median);
+    print("ns a call, tenth", &timed, |times| times.tenth);
 }
 
 fn print(title: &str, rows: &[(&str, Vec<Times>)], pick: fn(&Times) -> f64) {
