@@ -29,7 +29,7 @@ use Rattle.rules.specs.Code.{idAt, keyAt, Sought, Sorted, Entries}
 use Rattle.rules.proofs.Ends.{Ends, done, step, leaves, leaves-all, ends-anywhere}
 use Rattle.rules.proofs.Meeting.{ring-free}
 use Rattle.operations.specs.Defuncts.{redirect, removeAll}
-use Rattle.operations.specs.Code.{flagged, unflagged, tookOver, handStep, handOn, entryAt, lastFrom, handedOn, landed, Rows}
+use Rattle.operations.specs.Code.{flagged, unflagged, tookOver, handStep, handOn, entryAt, lastFrom, handedOn, landed, Rows, Led}
 use Rattle.operations.proofs.Flags.{flag-yes, flag-no}
 use Rattle.operations.proofs.Leaving.{redirect-yes, redirect-no, hand-long, hand-all}
 
@@ -185,43 +185,46 @@ module _ (goes : List Bool) (l : List DefunctLock) (t : Yes (ascending dkey l)) 
   landing h = ap (unflagged (take (length l) goes)) (sym (landed-all h)) ∙ hand-all goes l t (length l) (omega arith) h
 
 -- ---- the same by places in columns of those that go
-module _ (gone : List DefunctLock) (n : ℕ) (ids targets : List ℕ) (c : Entries gone n ids targets) where
+module _ (gone : List DefunctLock) (n : ℕ) (long : length gone ≡ n) where
   here-at : (r : ℕ) → r < n → entryAt gone r ≡ some (getD gone r blankDefunct)
-  here-at r h = rw (lt-ltb r (length gone) (omega (arith, c .long)))
+  here-at r h = rw (lt-ltb r (length gone) (omega arith))
 
-  past-end : (r : ℕ) → n ≤ r → entryAt gone r ≡ none
-  past-end r h = rw (le-ltb r (length gone) (omega (arith, c .long)))
+  pub past-end : (r : ℕ) → n ≤ r → entryAt gone r ≡ none
+  past-end r h = rw (le-ltb r (length gone) (omega arith))
+
+module _ (gone : List DefunctLock) (n : ℕ) (next : List ℕ) (c : Led gone n next) where
+  pub walk-starts : (first : ℕ) → lastFrom n gone (entryAt gone first) (entryAt gone n) ≡ lastFrom n gone (entryAt gone first) none
+  walk-starts first = rw (past-end gone n (c .long) n (omega arith))
+
+  pub walk-turns : (i at last : ℕ) → i < n → at < n → lastFrom (n - (i + 1)) gone (entryAt gone (getD next at 0)) (entryAt gone at) ≡ lastFrom (n - i) gone (entryAt gone at) (entryAt gone last)
+  unfolding lastFrom
+  walk-turns i at last h g =
+      let m : n - i ≡ suc (n - (i + 1)) = omega arith in
+      rw (m, c .at-next at g, here-at gone n (c .long) at g)
 
   pub walk-stops : (m at last : ℕ) → n ≤ at → entryAt gone last ≡ lastFrom m gone (entryAt gone at) (entryAt gone last)
   unfolding lastFrom
   walk-stops zero at last h = refl
-  walk-stops (suc m) at last h = rw (past-end at h)
+  walk-stops (suc m) at last h = rw (past-end gone n (c .long) at h)
 
   pub walk-spent : (i at last : ℕ) → n ≤ i → entryAt gone last ≡ lastFrom (n - i) gone (entryAt gone at) (entryAt gone last)
   unfolding lastFrom
   walk-spent i at last h = let e : n - i ≡ 0 = omega arith in rw e
 
-  module _ (s : Sorted (keyAt ids) n) where
-    in-order : Yes (ascending dkey gone)
-    in-order = rw take-length at (ascending-yes dkey gone (length gone) blankDefunct (omega arith) (λ j h.
-        rw (← ap key (c .at-gone j (omega (arith, c .long))), ← ap key (c .at-gone (j + 1) (omega (arith, c .long)))) (s j (j + 1) (omega arith) (omega (arith, c .long)))))
+module _ (gone : List DefunctLock) (n : ℕ) (ids targets : List ℕ) (c : Entries gone n ids targets) (s : Sorted (keyAt ids) n) where
+  in-order : Yes (ascending dkey gone)
+  in-order = rw take-length at (ascending-yes dkey gone (length gone) blankDefunct (omega arith) (λ j h.
+      rw (← ap key (c .at-gone j (omega (arith, c .long))), ← ap key (c .at-gone (j + 1) (omega (arith, c .long)))) (s j (j + 1) (omega arith) (omega (arith, c .long)))))
 
-    found-at : (k r : ℕ) → Sought (keyAt ids) n k r → entryAt gone r ≡ findD gone k
-    found-at k r (inl w) = here-at r (w .0) ∙ sym (find-key dkey gone in-order k (mem-at gone r blankDefunct (omega (arith, c .long, w .0))) (sym (ap key (c .at-gone r (w .0))) ∙ w .1))
-    found-at k r (inr w) = past-end r (omega (arith, w .0)) ∙ sym (find-miss (λ d. eqb (dkey d) k) gone (λ d m u.
-        let p = at-mem blankDefunct m in
-        let h : p .0 < n = omega (arith, c .long, p .1) in
-        w .1 (p .0) h (ap key (c .at-gone (p .0) h) ∙ ap dkey (p .2) ∙ eqb-true (dkey d) k u)))
+  pub found-at : (k r : ℕ) → Sought (keyAt ids) n k r → entryAt gone r ≡ findD gone k
+  found-at k r (inl w) = here-at gone n (c .long) r (w .0) ∙ sym (find-key dkey gone in-order k (mem-at gone r blankDefunct (omega (arith, c .long, w .0))) (sym (ap key (c .at-gone r (w .0))) ∙ w .1))
+  found-at k r (inr w) = past-end gone n (c .long) r (omega (arith, w .0)) ∙ sym (find-miss (λ d. eqb (dkey d) k) gone (λ d m u.
+      let p = at-mem blankDefunct m in
+      let h : p .0 < n = omega (arith, c .long, p .1) in
+      w .1 (p .0) h (ap key (c .at-gone (p .0) h) ∙ ap dkey (p .2) ∙ eqb-true (dkey d) k u)))
 
-    pub walk-starts : (k at : ℕ) → Sought (keyAt ids) n k at → lastFrom n gone (entryAt gone at) (entryAt gone n) ≡ lastFrom n gone (findD gone k) none
-    walk-starts k at w = rw (found-at k at w, past-end n (omega arith))
-
-    pub walk-turns : (i at last next : ℕ) (x : LockId) → i < n → at < n → x ≡ idAt targets at → Sought (keyAt ids) n (key x) next
-        → lastFrom (n - (i + 1)) gone (entryAt gone next) (entryAt gone at) ≡ lastFrom (n - i) gone (entryAt gone at) (entryAt gone last)
-    unfolding lastFrom
-    walk-turns i at last next x h g e w =
-        let m : n - i ≡ suc (n - (i + 1)) = omega arith in
-        rw (m, here-at at g, found-at (key x) next w, e, c .at-target at g)
+  pub led-of : (next : List ℕ) → ((i : ℕ) → i < n → Sought (keyAt ids) n (keyAt targets i) (getD next i 0)) → Led gone n next
+  led-of next f = record { long = c .long; at-next = λ i h. found-at (keyAt targets i) (getD next i 0) (f i h) ∙ ap (λ (x : LockId). findD gone (key x)) (c .at-target i h) }
 
 module _ (gone : List DefunctLock) (n : ℕ) (ids targets holders : List ℕ) (c : Rows gone n ids targets holders) (d : DefunctLock) (k : ℕ)
     (e : entryAt gone k ≡ lastFrom n gone (findD gone (key (d .target))) none) where
@@ -230,8 +233,8 @@ module _ (gone : List DefunctLock) (n : ℕ) (ids targets holders : List ℕ) (c
   last-is o f = ap (λ (x : Option DefunctLock). handedOn x d) (sym f ∙ e ∙ ap (λ (m : ℕ). lastFrom m gone (findD gone (key (d .target))) none) (sym (c .entries .long)))
 
   pub lands-here : n ≤ k → d ≡ landed gone d
-  lands-here h = last-is none (past-end gone n ids targets (c .entries) k h)
+  lands-here h = last-is none (past-end gone n (c .entries .long) k h)
 
   pub lands-there : k < n → (x : LockId) → x ≡ idAt targets k
       → record { lock = d .lock; target = x; expires = d .expires; broken = d .broken; breaker = d .breaker; holder = getD holders k 0 } ≡ landed gone d
-  lands-there h x f = rw (f, c .entries .at-target k h, c .at-holder k h) (last-is (some (getD gone k blankDefunct)) (here-at gone n ids targets (c .entries) k h))
+  lands-there h x f = rw (f, c .entries .at-target k h, c .at-holder k h) (last-is (some (getD gone k blankDefunct)) (here-at gone n (c .entries .long) k h))

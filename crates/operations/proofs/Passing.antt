@@ -1,7 +1,7 @@
 -- The single pass over the defunct entries: those that go are read out into columns, those that stay are led on through
 -- them and moved down, the places left over are blanked.
 -- Assumes nothing.
-use mathlib.Core.Bool.{Bool, true, false}
+use mathlib.Core.Bool.{Bool, true, false, true≢false}
 use mathlib.Core.List.{List, [], _∷_, _++_, map, append-assoc}
 use mathlib.Core.Path.{_≡_, refl, sym, ap, _∙_}
 use Prim.Native.Nat.{ℕ, zero, suc, _+_, _*_, _-_, _≤_, _<_}
@@ -81,6 +81,20 @@ flag-order (f ∷ fs) b [] t = refl
 flag-order (true ∷ fs) b (x ∷ xs) t = and-i (leb b (dkey x)) (from dkey (suc (dkey x)) (flagged fs xs)) (and-l (leb b (dkey x)) (from dkey (suc (dkey x)) xs) t) (flag-order fs (suc (dkey x)) xs (rest dkey b x xs t))
 flag-order (false ∷ fs) b (x ∷ xs) t =
     from-weaken dkey (suc (dkey x)) b (flagged fs xs) (omega (arith, leb-true b (dkey x) (and-l (leb b (dkey x)) (from dkey (suc (dkey x)) xs) t))) (flag-order fs (suc (dkey x)) xs (rest dkey b x xs t))
+
+flag-le : (fs : List Bool) (l : List DefunctLock) → length (flagged fs l) ≤ length l
+flag-le [] l = omega arith
+flag-le (f ∷ fs) [] = omega arith
+flag-le (true ∷ fs) (x ∷ xs) = omega (arith, flag-le fs xs)
+flag-le (false ∷ fs) (x ∷ xs) = omega (arith, flag-le fs xs)
+
+-- where one stays, not all are marked
+pub flag-less : (fs : List Bool) (l : List DefunctLock) (q : ℕ) → q < length l → getD fs q false ≡ false → length (flagged fs l) < length l
+flag-less [] l q h e = omega arith
+flag-less (f ∷ fs) [] q h e = absurd (omega arith)
+flag-less (true ∷ fs) (x ∷ xs) zero h e = absurd (true≢false e)
+flag-less (true ∷ fs) (x ∷ xs) (suc q) h e = omega (arith, flag-less fs xs q (omega arith) e)
+flag-less (false ∷ fs) (x ∷ xs) q h e = omega (arith, flag-le fs xs)
 
 -- ---- one more place is read
 module _ (goes : List Bool) (l : List DefunctLock) (i : ℕ) (h : i < length goes) (k : i < length l) where

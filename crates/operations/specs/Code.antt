@@ -6,7 +6,7 @@ use mathlib.Core.Bool.{Bool, true, false, cond}
 use mathlib.Core.List.{List, [], _∷_, _++_, map}
 use mathlib.Core.Option.{Option, none, some}
 use mathlib.Core.Path.{_≡_}
-use Prim.Native.Nat.{ℕ, zero, suc, _+_, _≤_, _<_}
+use Prim.Native.Nat.{ℕ, zero, suc, _+_, _*_, _≤_, _<_}
 use lib.Dec.{eqb, ltb}
 use lib.ListN.{length, getD, take}
 use Rattle.lists.specs.Tests.{_or_, non, Yes}
@@ -22,7 +22,7 @@ use Rattle.state.specs.declared.LockState.{LockState}
 use Rattle.state.specs.Locks.{isVehicle, hasId, akey, dkey, blankActive, blankDefunct}
 use Rattle.state.specs.Model.{Model, modelOf, Limits, full, Tidy}
 use Rattle.rules.specs.Rules.{findD, rule9, brokenRule, isSound}
-use Rattle.rules.specs.Code.{Entries}
+use Rattle.rules.specs.Code.{keyAt, Sought, Sorted, Entries}
 use Rattle.lookups.specs.Reads.{narrow, onScope}
 use Rattle.operations.specs.declared.answers.Answer.{Answer}
 use Rattle.operations.specs.declared.answers.Answer.the-variants.{Done, ParentNotFound, ParentNotVehicle, OtherOwner, NotCovered, Invariant}
@@ -262,6 +262,19 @@ landed gone d = handedOn (lastFrom (length gone) gone (findD gone (key (d .targe
 pub record Rows (gone : List DefunctLock) (n : ℕ) (ids targets holders : List ℕ) : Type 0 where
   pub entries : Entries gone n ids targets
   pub at-holder : (i : ℕ) → i < n → getD holders i 0 ≡ getD gone i blankDefunct .holder
+
+-- and of the places of their targets among them
+pub record Led (gone : List DefunctLock) (n : ℕ) (next : List ℕ) : Type 0 where
+  pub long : length gone ≡ n
+  pub at-next : (i : ℕ) → i < n → entryAt gone (getD next i 0) ≡ findD gone (key (getD gone i blankDefunct .target))
+
+pub record Stepped (ids targets next holders : List ℕ) (n : ℕ) : Type 0 where
+  pub ids-fit : 2 * n ≤ length ids
+  pub targets-fit : 2 * n ≤ length targets
+  pub next-fit : n ≤ length next
+  pub holders-fit : n ≤ length holders
+  pub sorted : Sorted (keyAt ids) n
+  pub sought : (i : ℕ) → i < n → Sought (keyAt ids) n (keyAt targets i) (getD next i 0)
 
 -- the state with other defunct entries
 abbrev pub withEntries : LockState → List DefunctLock → LockState

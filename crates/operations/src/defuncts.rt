@@ -7,14 +7,13 @@ use state::LockState;
 ghost use mathlib.Core.List.{List};
 ghost use mathlib.Core.Option.{none};
 ghost use mathlib.Core.Path.{_≡_};
-ghost use Prim.Native.Nat.{_+_, _*_, _≤_, _<_};
-ghost use lib.ListN.{length, take};
+ghost use Prim.Native.Nat.{ℕ, _+_, _*_, _≤_, _<_};
+ghost use lib.ListN.{length, getD, take};
 ghost use Rattle.ids.specs.Order.{key};
 ghost use Rattle.state.specs.Model.{modelOf};
-ghost use Rattle.rules.specs.Rules.{findD};
-ghost use Rattle.rules.specs.Code.{idAt, keyAt, Sought, Sorted, Entries};
+ghost use Rattle.rules.specs.Code.{idAt, keyAt, Sought, Sorted};
 ghost use Rattle.operations.specs.Defuncts.{removeAll, superseded};
-ghost use Rattle.operations.specs.Code.{flagged, tookOver, Ready, entryAt, lastFrom, landed, Rows, withEntries};
+ghost use Rattle.operations.specs.Code.{flagged, tookOver, Ready, entryAt, lastFrom, landed, Rows, Led, Stepped, withEntries};
 
 // Room for every defunct entry, and for every active lock beside them.
 pub(crate) const PLACES: usize = LockState::ACTIVE + LockState::DEFUNCT;
@@ -85,20 +84,36 @@ fn place(list: &[u64], n: usize, id: LockId) -> usize
     n
 }
 
-// The last of n entries that the walk from an id meets; n where it meets none. One that meets none twice has at most n turns.
-fn last_of(list: &[u64], targets: &[u64], n: usize, id: LockId) -> usize
-    requires { ⌜ (2 * n ≤ length (now list)) × (2 * n ≤ length (now targets)) × Sorted (keyAt (now list)) n ⌝ }
-    ensures { λ r. ⌜ ((gone : List DefunctLock) → Entries gone n (now (list .entry)) (now (targets .entry)) → entryAt gone r ≡ lastFrom n gone (findD gone (key id)) none) ⌝ }
+// For each of n entries the place that its target has among them; n where it has none.
+fn steps(list: &[u64], targets: &[u64], n: usize) -> [usize; LockState::DEFUNCT]
+    requires { ⌜ (n ≤ 128) × (2 * n ≤ length (now list)) × (2 * n ≤ length (now targets)) × Sorted (keyAt (now list)) n ⌝ }
+    ensures { λ r. ⌜ (length r ≡ 128) × ((i : ℕ) → i < n → Sought (keyAt (now (list .entry))) n (keyAt (now (targets .entry)) i) (getD r i 0)) ⌝ }
+{
+    let mut out = [0usize; LockState::DEFUNCT];
+    let mut i: usize = 0;
+    while i < n {
+        let k = place(list, n, id_at(targets, i));
+        out[i] = k;
+        i += 1;
+    }
+    out
+}
+
+// The last of n entries that the walk from a place meets; n where it meets none. One that meets none twice has at most n
+// turns.
+fn last_of(next: &[usize], n: usize, first: usize) -> usize
+    requires { ⌜ n ≤ length (now next) ⌝ }
+    ensures { λ r. ⌜ ((gone : List DefunctLock) → Led gone n (now (next .entry)) → entryAt gone r ≡ lastFrom n gone (entryAt gone first) none) ⌝ }
 {
     let mut last = n;
-    let mut at = place(list, n, id);
+    let mut at = first;
     let mut i: usize = 0;
     while i < n {
         if n <= at {
             return last;
         }
         last = at;
-        at = place(list, n, id_at(targets, at));
+        at = next[at];
         i += 1;
     }
     last
@@ -108,14 +123,16 @@ fn last_of(list: &[u64], targets: &[u64], n: usize, id: LockId) -> usize
 fn handed_on(
     list: &[u64],
     targets: &[u64],
+    next: &[usize],
     holders: &[u16],
     n: usize,
     d: DefunctLock,
 ) -> DefunctLock
-    requires { ⌜ (2 * n ≤ length (now list)) × (2 * n ≤ length (now targets)) × (n ≤ length (now holders)) × Sorted (keyAt (now list)) n ⌝ }
+    requires { ⌜ Stepped (now list) (now targets) (now next) (now holders) n ⌝ }
     ensures { λ r. ⌜ ((gone : List DefunctLock) → Rows gone n (now (list .entry)) (now (targets .entry)) (now (holders .entry)) → r ≡ landed gone d) ⌝ }
 {
-    let k = last_of(list, targets, n, d.target);
+    let first = place(list, n, d.target);
+    let k = last_of(next, n, first);
     if n <= k {
         return d;
     }
@@ -132,7 +149,7 @@ fn handed_on(
 }
 
 // The marked entries go: they are read out into columns, then those that stay are led on through them and moved down, and
-// the places left over are blanked.
+// the places left over are blanked. Where all go, no place of a target is looked for.
 pub(crate) fn shed_in(mut s: LockState, goes: [bool; LockState::DEFUNCT]) -> LockState
     requires { ⌜ Ready s ⌝ }
     ensures { λ r. ⌜ r ≡ withEntries s (removeAll (flagged (take (s .defuncts) goes) (modelOf s .defunct)) (modelOf s .defunct)) ⌝ }
@@ -156,6 +173,8 @@ pub(crate) fn shed_in(mut s: LockState, goes: [bool; LockState::DEFUNCT]) -> Loc
             g += 1;
         }
     }
+    let few = if g < n { g } else { 0 };
+    let next = steps(&list, &targets, few);
     let mut w: usize = 0;
     let mut q: usize = 0;
     while q < n {
@@ -163,7 +182,7 @@ pub(crate) fn shed_in(mut s: LockState, goes: [bool; LockState::DEFUNCT]) -> Loc
         q += 1;
         if !goes[k] {
             let d = s.defunct[k];
-            let x = handed_on(&list, &targets, &holders, g, d);
+            let x = handed_on(&list, &targets, &next, &holders, g, d);
             s.defunct[w] = x;
             w += 1;
         }

@@ -38,9 +38,10 @@ fn to_defunct(new: ActiveLock, by: u32, at: u64, a: ActiveLock) -> DefunctLock
     }
 }
 
-// The locks that went are entered as broken, each at its place, after each entry that it does not come before; then what
-// the new lock covers goes, as in defuncts::shed. All in one array with room for every entry and every lock, and in one
-// function, since an array that is handed on is copied.
+// The locks that went are entered as broken, each at its place, after each entry that it does not come before. Then what the
+// new lock covers goes: each, ascending, hands its target and holder on to those that point at it, and the others are read
+// out. All in one array with room for every entry and every lock, and in one function, since an array that is handed on is
+// copied.
 pub(crate) fn entered(
     mut entries: [DefunctLock; LockState::DEFUNCT],
     m: usize,

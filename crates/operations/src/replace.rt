@@ -130,8 +130,9 @@ fn joined(
     locks
 }
 
+// One function, since a state that is handed on is copied: one exit for every refusal, and one for the next state.
 pub fn commit_replacement(
-    mut s: LockState,
+    s: LockState,
     list: &[u64],
     lock: ActiveLock,
     by: u32,
@@ -140,8 +141,7 @@ pub fn commit_replacement(
     ensures { λ r. ⌜ r ≡ commitReplacementOn s (now (list .entry)) lock by at ⌝ }
 {
     let b = state::blank_active();
-    let mut removed = [b; LockState::ACTIVE];
-    let mut gone: usize = 0;
+    let blanks = [b; LockState::ACTIVE];
     let mut told = Answer::Done;
     let v = rules::broken(s);
     match v {
@@ -180,10 +180,16 @@ pub fn commit_replacement(
                         if let Verdict::Broken(_) = w {
                             told = Answer::Invariant;
                         } else {
-                            told = Answer::Done;
-                            gone = cut.gone;
-                            removed = went;
-                            s = next;
+                            // read anew, as above
+                            let went = cut.removed;
+                            return Replaced {
+                                told: Replacement {
+                                    answer: Answer::Done,
+                                    gone: cut.gone,
+                                    removed: went,
+                                },
+                                state: next,
+                            };
                         }
                     }
                 }
@@ -193,8 +199,8 @@ pub fn commit_replacement(
     Replaced {
         told: Replacement {
             answer: told,
-            gone: gone,
-            removed: removed,
+            gone: 0,
+            removed: blanks,
         },
         state: s,
     }

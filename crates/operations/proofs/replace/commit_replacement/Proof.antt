@@ -111,16 +111,16 @@ enum-told-3 : tie.Need-enum-told-3
 enum-told-3 c = search needs
 
 returns : tie.Need-returns
-returns c = let o = c .before .before .before .before .before .before in whole-broken (o .args .s) (o .args .list .now) (o .args .lock) (normal (o .args .lock)) refl (o .args .by) (o .args .at) _ (c .before .before .before .broken .ensures) _ (c .before .v .given .1) _ (none-removed _ (c .before .before .before .before .blank-active .ensures) _ (o .args .s))
+returns c = let p = made (c .before .before .before .before .before .before .before .before .before) in let q = out p in let o = start q in rest q _ (left-done (o .args .s) (ready (judged q)) (q .moved .result) (cut q) (judged q .normal-form .result) (o .args .by) (o .args .at) _ (p .before .judged-left .ensures) _ (p .is-done2 .ensures) (c .before .before .before .before .before .before .before .before .before .before .before .before .if2 .taken) _ (c .before .before .before .before .before .before .before .before .before .entered .ensures) (c .before .before .before .before .before .before .before .if3 .left) _ (c .before .before .before .before .joined .ensures) _ _ refl (shut-sound (o .args .s) _ (q .moved .result .gone) (q .moved .result .removed) (gone-placed (o .args .s) (ready (judged q)) (q .moved .result) (cut q) (judged q .normal-form .result) (o .args .by) (o .args .at)) _ (c .before .before .before .broken2 .ensures) (c .before .enum-told3 .given .1)))
 
 returns-2 : tie.Need-returns-2
-returns-2 c = let p = made (c .before .before) in let q = out p in let o = start q in rest q _ (left-full (o .args .s) (ready (judged q)) (q .moved .result) (cut q) (judged q .normal-form .result) (o .args .by) (o .args .at) _ (p .before .judged-left .ensures) _ (p .is-done2 .ensures) (c .before .before .before .before .before .if2 .taken) _ (c .before .before .entered .ensures) (c .if3 .taken) _ (none-removed _ (q .before .before .before .before .before .before .before .before .before .before .before .blank-active .ensures) _ (o .args .s)))
+returns-2 c = let o = c .before .before .before .before .before .before in whole-broken (o .args .s) (o .args .list .now) (o .args .lock) (normal (o .args .lock)) refl (o .args .by) (o .args .at) _ (c .before .before .before .broken .ensures) _ (c .before .v .given .1) _ (none-removed _ (c .before .before .before .before .blank-active .ensures) _ (o .args .s))
 
 returns-3 : tie.Need-returns-3
-returns-3 c = let p = made (c .before .before .before .before .before .before .before .before) in let q = out p in let o = start q in rest q _ (left-done (o .args .s) (ready (judged q)) (q .moved .result) (cut q) (judged q .normal-form .result) (o .args .by) (o .args .at) _ (p .before .judged-left .ensures) _ (p .is-done2 .ensures) (c .before .before .before .before .before .before .before .before .before .before .before .if2 .taken) _ (c .before .before .before .before .before .before .before .before .entered .ensures) (c .before .before .before .before .before .before .if3 .left) _ (c .before .before .before .joined .ensures) _ _ refl (shut-broken (o .args .s) _ (q .moved .result .gone) (q .moved .result .removed) (gone-placed (o .args .s) (ready (judged q)) (q .moved .result) (cut q) (judged q .normal-form .result) (o .args .by) (o .args .at)) _ (c .before .before .broken2 .ensures) _ (c .enum-told2 .given .1) _ (none-removed _ (q .before .before .before .before .before .before .before .before .before .before .before .blank-active .ensures) _ (o .args .s))))
+returns-3 c = let p = made (c .before .before) in let q = out p in let o = start q in rest q _ (left-full (o .args .s) (ready (judged q)) (q .moved .result) (cut q) (judged q .normal-form .result) (o .args .by) (o .args .at) _ (p .before .judged-left .ensures) _ (p .is-done2 .ensures) (c .before .before .before .before .before .if2 .taken) _ (c .before .before .entered .ensures) (c .if3 .taken) _ (none-removed _ (q .before .before .before .before .before .before .before .before .before .before .before .blank-active .ensures) _ (o .args .s)))
 
 returns-4 : tie.Need-returns-4
-returns-4 c = let p = made (c .before .before .before .before .before .before .before .before) in let q = out p in let o = start q in rest q _ (left-done (o .args .s) (ready (judged q)) (q .moved .result) (cut q) (judged q .normal-form .result) (o .args .by) (o .args .at) _ (p .before .judged-left .ensures) _ (p .is-done2 .ensures) (c .before .before .before .before .before .before .before .before .before .before .before .if2 .taken) _ (c .before .before .before .before .before .before .before .before .entered .ensures) (c .before .before .before .before .before .before .if3 .left) _ (c .before .before .before .joined .ensures) _ _ refl (shut-sound (o .args .s) _ (q .moved .result .gone) (q .moved .result .removed) (gone-placed (o .args .s) (ready (judged q)) (q .moved .result) (cut q) (judged q .normal-form .result) (o .args .by) (o .args .at)) _ (c .before .before .broken2 .ensures) (c .enum-told3 .given .1)))
+returns-4 c = let p = made (c .before .before .before .before .before .before .before .before) in let q = out p in let o = start q in rest q _ (left-done (o .args .s) (ready (judged q)) (q .moved .result) (cut q) (judged q .normal-form .result) (o .args .by) (o .args .at) _ (p .before .judged-left .ensures) _ (p .is-done2 .ensures) (c .before .before .before .before .before .before .before .before .before .before .before .if2 .taken) _ (c .before .before .before .before .before .before .before .before .entered .ensures) (c .before .before .before .before .before .before .if3 .left) _ (c .before .before .before .joined .ensures) _ _ refl (shut-broken (o .args .s) _ (q .moved .result .gone) (q .moved .result .removed) (gone-placed (o .args .s) (ready (judged q)) (q .moved .result) (cut q) (judged q .normal-form .result) (o .args .by) (o .args .at)) _ (c .before .before .broken2 .ensures) _ (c .enum-told2 .given .1) _ (none-removed _ (q .before .before .before .before .before .before .before .before .before .before .before .blank-active .ensures) _ (o .args .s))))
 
 returns-5 : tie.Need-returns-5
 returns-5 c = let p = c .before in let q = out p in let o = start q in rest q _ (left-refused (o .args .s) (ready (judged q)) (q .moved .result) (cut q) (judged q .normal-form .result) (o .args .by) (o .args .at) _ (p .before .judged-left .ensures) _ (p .is-done2 .ensures) (c .if2 .left) _ (none-removed _ (q .before .before .before .before .before .before .before .before .before .before .before .blank-active .ensures) _ (o .args .s)))
