@@ -464,12 +464,12 @@ fn cells(row: usize) -> Vec<Ours> {
 
 /// A call that is refused may not go as deep as one that is done.
 fn name_calls() -> ExitCode {
-    let calls = deep(1, 0).into_iter().map(|(name, _)| name);
-    for (row, name) in calls.chain(["follow, each of them"]).enumerate() {
+    for (row, (name, _)) in deep(1, 0).iter().enumerate() {
         let mut cells = cells(row);
         let answers: Vec<String> = cells.iter_mut().map(|c| c.call().to_string()).collect();
         println!("{name}: {}", answers.join(", "));
     }
+    println!("follow, each of them");
     ExitCode::SUCCESS
 }
 
