@@ -1,10 +1,12 @@
 -- What the code shows at each of its answers, each law once.
 -- Assumes nothing.
 use mathlib.Core.Path.{_≡_, refl, sym, ap, subst, _∙_}
+use mathlib.Core.Bool.{Bool, true, false, cond}
 use mathlib.Core.List.{List}
 use Prim.Native.Nat.{ℕ, _+_, _≤_, _<_, _^_, _%_}
 use native.Mathlib.Omega.{arith}
-use borrow.Author.Tests.{eq-eqb, ne-eqb, le-leb, lt-leb}
+use borrow.Author.Tests.{eq-eqb, ne-eqb, le-leb, lt-leb, leb-true, leb-false}
+use lib.Dec.{leb}
 use Rattle.lists.proofs.Tests.{cond-true, cond-false}
 use Rattle.rules.specs.declared.Verdict.{Verdict}
 use Rattle.rules.specs.declared.Verdict.the-variants.{Sound, Broken}
@@ -46,13 +48,21 @@ module _ (sp : Spare) (n : ℕ) (x : Numbered) (d : ℕ) (e : d ≡ distance (x 
   unfolding turnOn
   turn-now h = sym (cond-true _ _ _ (eq-eqb _ _ (sym e ∙ h)))
 
-  pub turn-ahead : (d ≡ 0 → ⊥) → d ≤ 2147483647 → still sp (E.Ahead (sp .expected)) (x .number) n ≡ turnOn sp n x
+  turn-ahead : (d ≡ 0 → ⊥) → d ≤ 2147483647 → still sp (E.Ahead (sp .expected)) (x .number) n ≡ turnOn sp n x
   unfolding turnOn
   turn-ahead h k = sym (cond-false _ _ _ (ne-eqb _ _ (λ z. h (e ∙ z))) ∙ cond-true _ _ _ (le-leb (distance (x .number) (sp .expected)) _ (omega arith)))
 
-  pub turn-repeat : (d ≡ 0 → ⊥) → 2147483647 < d → still sp (E.Repeat (sp .expected)) (x .number) n ≡ turnOn sp n x
+  turn-repeat : (d ≡ 0 → ⊥) → 2147483647 < d → still sp (E.Repeat (sp .expected)) (x .number) n ≡ turnOn sp n x
   unfolding turnOn
   turn-repeat h k = sym (cond-false _ _ _ (ne-eqb _ _ (λ z. h (e ∙ z))) ∙ cond-false _ _ _ (lt-leb (distance (x .number) (sp .expected)) _ (omega arith)))
+
+  -- half of the numbers lie ahead, the others behind
+  pub turn-other : (d ≡ 0 → ⊥) → still sp (cond (leb d 2147483647) (E.Ahead (sp .expected)) (E.Repeat (sp .expected))) (x .number) n ≡ turnOn sp n x
+  turn-other h = go (leb d 2147483647) refl
+    where
+      go : (b : Bool) → leb d 2147483647 ≡ b → still sp (cond b (E.Ahead (sp .expected)) (E.Repeat (sp .expected))) (x .number) n ≡ turnOn sp n x
+      go true t = turn-ahead h (leb-true d 2147483647 t)
+      go false t = turn-repeat h (leb-false d 2147483647 t)
 
 -- ---- 12 before a step
 module _ (sp : Spare) (at : ℕ) (st : Step) where
