@@ -1,7 +1,7 @@
 -- A run over a chunk: what is left of it from the place that was reached; and its spare is the one of the plain run (Runs.antt).
 -- Assumes nothing.
 use mathlib.Core.Path.{_≡_, refl, sym, ap, _∙_}
-use mathlib.Core.Bool.{Bool, true, false, cond}
+use mathlib.Core.Bool.{Bool, true, false, cond, true≢false}
 use mathlib.Core.List.{List}
 use Prim.Native.Nat.{ℕ, zero, suc, _+_, _-_, _≤_, _<_}
 use native.Mathlib.Omega.{arith}
@@ -13,6 +13,7 @@ use Rattle.image.specs.declared.Spare.{Spare}
 use Rattle.feed.specs.declared.events.Event.{Event}
 use Rattle.feed.specs.declared.events.Step.{Step}
 use Rattle.feed.specs.declared.following.Run.{Run}
+use Rattle.feed.specs.declared.following.Stop.{Stop}
 use Rattle.feed.specs.declared.following.Stop.the-variants as stop
 use Rattle.feed.specs.Feed.{stepOn, isApplied}
 use Rattle.feed.specs.Runs.{stops, runOn, fresh, passed, halted, followOn}
@@ -109,3 +110,22 @@ follow-runs (suc k) r s = ended (follow-runs k (passed r (stepOn (r .spare) s (r
     ended : Rest → (b : Bool) → leb (length s) (r .place) ≡ b → followOn (suc k) r s .spare ≡ runOn (suc k) (r .spare) s (r .place)
     ended w true t = let h = leb-true (length s) (r .place) t in ap (λ (x : Run). x .spare) (follow-end r s (suc k) h) ∙ sym (run-end (r .spare) s (r .place) (suc k) h)
     ended w false t = stopped w (leb-false (length s) (r .place) t) _ refl
+
+-- ---- a run that is told as ended is at the chunk's end: as many turns as there are bytes are enough
+abbrev pub isEnd : Stop → Bool
+isEnd stop.End = true
+isEnd (stop.At e) = false
+
+pub ended-there : (k : ℕ) (r : Run) (s : List ℕ) → length s - r .place ≤ k → isEnd (followOn k r s .stop) ≡ true → length s ≤ followOn k r s .place
+unfolding followOn
+ended-there zero r s m e = omega arith
+ended-there (suc k) r s m e =
+    go (leb (length s) (r .place)) refl (stops (stepOn (r .spare) s (r .place) .told .event)) refl
+    (λ h t. ended-there k (passed r (stepOn (r .spare) s (r .place))) s (let z = step-on (r .spare) s (r .place) t in omega (arith, h, m, z)) (sym (ap (λ (x : Run). isEnd (x .stop)) (follow-go r s k h t)) ∙ e))
+  where
+    go : (b : Bool) → leb (length s) (r .place) ≡ b → (c : Bool) → stops (stepOn (r .spare) s (r .place) .told .event) ≡ c
+        → (r .place < length s → stops (stepOn (r .spare) s (r .place) .told .event) ≡ false → length s ≤ followOn k (passed r (stepOn (r .spare) s (r .place))) s .place)
+        → length s ≤ followOn (suc k) r s .place
+    go true t c u f = let h = leb-true (length s) (r .place) t in rw (follow-end r s (suc k) h) h
+    go false t true u f = let h = leb-false (length s) (r .place) t in absurd (true≢false (sym e ∙ ap (λ (x : Run). isEnd (x .stop)) (follow-stop r s k h u)))
+    go false t false u f = let h = leb-false (length s) (r .place) t in rw (follow-go r s k h u) (f h u)
