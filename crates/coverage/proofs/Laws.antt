@@ -23,7 +23,7 @@ use Rattle.coverage.specs.Coverage.{wordOf, inSet, overlap, within, bitI
 use Rattle.coverage.specs.declared.LockCoverage.{LockCoverage}
 
 -- each word is one of 64 bits
-pub Sized : LockCoverage → Type 0
+unfoldable pub Sized : LockCoverage → Type 0
 Sized c = (i : ℕ) → wordOf c i < 2 ^ 64
 
 pub sized : (c : LockCoverage) → c .w0 < 2 ^ 64 → c .w1 < 2 ^ 64 → c .w2 < 2 ^ 64 → c .w3 < 2 ^ 64 → Sized c

@@ -1,15 +1,20 @@
--- Which ECUs a coverage has, when two coverages overlap, and when one contains another.
+-- Which ECUs a coverage has, when and where two coverages overlap, and when one contains another.
 -- Document 01, "Numbers that stand for things": "Coverage: the whole vehicle, or a set of ECUs, which may be empty";
--- and the last paragraph of "A sound state". Every definition goes by ECU numbers 0..=255.
+-- and the last paragraph of "A sound state"; document 02, C-13. Every definition goes by ECU numbers 0..=255.
 use Prim.Native.Nat.{ℕ, zero, suc, _+_, _/_, _%_, _^_}
 use mathlib.Core.Bool.{Bool, true, false, cond}
 use mathlib.Core.List.{List, [], _∷_}
+use mathlib.Core.Option.{Option, none, some}
 use lib.Dec.{eqb}
 use lib.Bits.{bitOr}
 use Rattle.bits.specs.Bits.{bitAt}
 use Rattle.lists.specs.Tests.{_and_, _or_, _imp_, non}
-use Rattle.lists.specs.Below.{anyBelow, allBelow}
+use Rattle.lists.specs.Below.{anyBelow, allBelow, lowestBelow}
 use Rattle.coverage.specs.declared.LockCoverage.{LockCoverage}
+use Rattle.coverage.specs.declared.Spot.{Spot}
+use Rattle.coverage.specs.declared.Spot.the-variants.{NoEcu, Ecu}
+use Rattle.coverage.specs.declared.Overlap.{Overlap}
+use Rattle.coverage.specs.declared.Overlap.the-variants.{Apart, Meets}
 
 abbrev pub noCoverage : LockCoverage
 noCoverage = record { w0 = 0; w1 = 0; w2 = 0; w3 = 0; whole = false }
@@ -35,6 +40,40 @@ covers c e = c .whole or inSet c e
 -- "Whole-vehicle coverage overlaps everything, the empty set included"; two sets overlap where some ECU is in both
 unfoldable pub overlap : LockCoverage → LockCoverage → Bool
 overlap a b = a .whole or b .whole or anyBelow 256 (λ e. inSet a e and inSet b e)
+
+-- ---- document 02, C-13
+-- an ECU, if there is one
+abbrev pub spotOf : Option ℕ → Spot
+spotOf none = NoEcu
+spotOf (some e) = Ecu e
+
+-- "the set's lowest"
+unfoldable pub lowestIn : LockCoverage → Spot
+lowestIn c = spotOf (lowestBelow 256 (inSet c))
+
+-- "the lowest shared ECU number": the lowest that both cover; "of two whole vehicles" none
+unfoldable pub spot : LockCoverage → LockCoverage → Spot
+spot a b = cond (a .whole and b .whole) NoEcu (spotOf (lowestBelow 256 (λ e. covers a e and covers b e)))
+
+-- "The test for overlap, which answered yes or no": apart where it was no, else where the two meet
+unfoldable pub shared : LockCoverage → LockCoverage → Overlap
+shared a b = cond (overlap a b) (Meets (spot a b)) Apart
+
+-- words of the laws on it (proofs/Shared.antt): its yes or no; "an overlap with no ECU"; "the empty set"
+abbrev pub isMet : Overlap → Bool
+isMet Apart = false
+isMet (Meets at) = true
+
+abbrev pub isNoEcu : Spot → Bool
+isNoEcu NoEcu = true
+isNoEcu (Ecu e) = false
+
+abbrev pub isMetAtNone : Overlap → Bool
+isMetAtNone Apart = false
+isMetAtNone (Meets at) = isNoEcu at
+
+unfoldable pub isEmpty : LockCoverage → Bool
+isEmpty c = non (c .whole) and non (anyBelow 256 (inSet c))
 
 -- b lies within a: the whole vehicle "contains everything. A set never contains the whole vehicle"; a set contains a set
 -- whose ECUs are all in it

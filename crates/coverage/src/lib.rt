@@ -1,7 +1,9 @@
 // LockCoverage: the whole vehicle, or a set of ECUs 0..=255 as the bits of four words.
 // SPDX-License-Identifier: Apache-2.0
 ghost use mathlib.Core.Path.{_≡_};
-ghost use Rattle.coverage.specs.Coverage.{noCoverage, wholeVehicle, wordOf, covers, overlap, within, bitIn, withEcu, withEcus};
+ghost use Prim.Native.Nat.{_≤_};
+ghost use Rattle.coverage.specs.Coverage.{noCoverage, wholeVehicle, wordOf, covers, overlap, lowestIn, spot, shared, within, bitIn, withEcu, withEcus};
+ghost use Rattle.coverage.specs.Code.{ecuOf, inBoth};
 
 // No array in here: an enum may then carry a lock.
 pub struct LockCoverage {
@@ -10,6 +12,19 @@ pub struct LockCoverage {
     pub w2: u64,
     pub w3: u64,
     pub whole: bool,
+}
+
+// Where two coverages that overlap meet: at the lowest ECU that both cover, or with no ECU (two whole vehicles; the whole
+// vehicle and the empty set).
+pub enum Spot {
+    NoEcu,
+    Ecu(u8),
+}
+
+// What the test for overlap answers.
+pub enum Overlap {
+    Apart,
+    Meets(Spot),
 }
 
 // The word with ECU e's bit set, if this is the word that has it.
@@ -45,6 +60,62 @@ fn word(c: LockCoverage, i: u8) -> u64
         2 => c.w2,
         _ => c.w3,
     }
+}
+
+// The lowest ECU of a word that has one; its first bit stands for ECU `from`.
+fn ecu_of(w: u64, from: u8) -> Spot
+    requires { ⌜ (w ≡ 0 → ⊥) × (from ≤ 192) ⌝ }
+    ensures { λ r. ⌜ r ≡ ecuOf w from ⌝ }
+{
+    Spot::Ecu(from + u64::trailing_zeros(w) as u8)
+}
+
+// The lowest ECU of the set.
+fn lowest_in(c: LockCoverage) -> Spot
+    ensures { λ r. ⌜ r ≡ lowestIn c ⌝ }
+{
+    if c.w0 != 0 {
+        return ecu_of(c.w0, 0);
+    }
+    if c.w1 != 0 {
+        return ecu_of(c.w1, 64);
+    }
+    if c.w2 != 0 {
+        return ecu_of(c.w2, 128);
+    }
+    if c.w3 != 0 {
+        return ecu_of(c.w3, 192);
+    }
+    Spot::NoEcu
+}
+
+// The ECUs that are in both sets.
+fn in_both(a: LockCoverage, b: LockCoverage) -> LockCoverage
+    ensures { λ r. ⌜ r ≡ inBoth a b ⌝ }
+{
+    LockCoverage {
+        w0: a.w0 & b.w0,
+        w1: a.w1 & b.w1,
+        w2: a.w2 & b.w2,
+        w3: a.w3 & b.w3,
+        whole: false,
+    }
+}
+
+// The bits of the whole vehicle's words are not looked at: it covers every ECU.
+fn spot_of(a: LockCoverage, b: LockCoverage) -> Spot
+    ensures { λ r. ⌜ r ≡ spot a b ⌝ }
+{
+    if a.whole & b.whole {
+        return Spot::NoEcu;
+    }
+    if a.whole {
+        return lowest_in(b);
+    }
+    if b.whole {
+        return lowest_in(a);
+    }
+    lowest_in(in_both(a, b))
 }
 
 impl LockCoverage {
@@ -95,7 +166,8 @@ impl LockCoverage {
         self.whole | ((w >> k) % 2 == 1)
     }
 
-    pub fn overlaps(self, other: LockCoverage) -> bool
+    // The yes or no of `overlaps`, for those who ask no more: rule 8, the search for a conflict, the defunct lookup.
+    pub fn meets(self, other: LockCoverage) -> bool
         ensures { λ r. ⌜ r ≡ overlap self other ⌝ }
     {
         self.whole
@@ -104,6 +176,15 @@ impl LockCoverage {
                 | (self.w1 & other.w1 != 0)
                 | (self.w2 & other.w2 != 0)
                 | (self.w3 & other.w3 != 0))
+    }
+
+    pub fn overlaps(self, other: LockCoverage) -> Overlap
+        ensures { λ r. ⌜ r ≡ shared self other ⌝ }
+    {
+        if !self.meets(other) {
+            return Overlap::Apart;
+        }
+        Overlap::Meets(spot_of(self, other))
     }
 
     pub fn contains(self, other: LockCoverage) -> bool

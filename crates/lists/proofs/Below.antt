@@ -1,8 +1,10 @@
--- A test at each or at some number below a bound: as statements, a bound that is a product taken apart, and flags that loops keep.
+-- A test at each or at some number below a bound: as statements, a bound that is a product taken apart, flags that loops
+-- keep; and the lowest number that passes.
 -- Assumes nothing.
 use mathlib.Core.Path.{_≡_, refl, sym, subst, ap, ap₂, _∙_}
 use mathlib.Core.Logic.{_⊎_, inl, inr, ⊎-elim}
-use mathlib.Core.Bool.{Bool, true, false, false≢true}
+use mathlib.Core.Bool.{Bool, true, false, cond, false≢true}
+use mathlib.Core.Option.{Option, none, some}
 use Prim.Native.Nat.{ℕ, zero, suc, _+_, _*_, _/_, _%_, _<_}
 use native.Mathlib.Nat.{le-step, lt-suc-self, not-suc-le-zero, div-lt-iff-lt-mul, mod-lt}
 use native.Mathlib.Decide.{ℕ-discrete}
@@ -11,8 +13,8 @@ use lib.Arith.{digits-lt, digits-div, digits-mod}
 use lib.Dec.{ltb}
 use borrow.Author.Tests.{ltb-true, ltb-false}
 use Rattle.lists.specs.Tests.{_and_, _or_, Yes, No}
-use Rattle.lists.specs.Below.{allBelow, anyBelow}
-use Rattle.lists.proofs.Tests.{and-l, and-r, and-i, or-e, or-l, or-r, against, →no, same-test}
+use Rattle.lists.specs.Below.{allBelow, anyBelow, orElse, lowestBelow}
+use Rattle.lists.proofs.Tests.{and-l, and-r, and-i, or-e, or-l, or-r, against, →no, by, same-test}
 
 -- ---- each number below n
 pub all-of : (n : ℕ) (p : ℕ → Bool) → ((i : ℕ) → i < n → p i ≡ true) → allBelow n p ≡ true
@@ -58,6 +60,42 @@ pub any-same : (n : ℕ) (f g : ℕ → Bool) → ((k : ℕ) → k < n → f k �
 unfolding anyBelow
 any-same zero f g h = refl
 any-same (suc n) f g h = rw (h n (omega arith), any-same n f g (λ k l. h k (omega arith)))
+
+-- ---- the lowest number below n that passes
+-- o says which it is
+abbrev pub IsLowest : ℕ → (ℕ → Bool) → Option ℕ → Type 0
+IsLowest n f none = (k : ℕ) → k < n → f k ≡ false
+IsLowest n f (some t) = (t < n) × (f t ≡ true) × ((k : ℕ) → k < t → f k ≡ false)
+
+pub lowest-is : (n : ℕ) (f : ℕ → Bool) → IsLowest n f (lowestBelow n f)
+unfolding lowestBelow
+lowest-is zero f = λ k h. absurd (omega arith)
+lowest-is (suc n) f = go (lowestBelow n f) (lowest-is n f) (f n) refl
+  where
+    go : (o : Option ℕ) → IsLowest n f o → (b : Bool) → f n ≡ b → IsLowest (suc n) f (orElse o (cond b (some n) none))
+    go (some t) r b e = (le-step (r .0), r .1, r .2)
+    go none r true e = (lt-suc-self n, e, r)
+    go none r false e = λ k h. elim (ℕ-discrete k n) [ yes q ↦ subst (λ (j : ℕ). f j ≡ false) (sym q) e | no q ↦ r k (omega arith) ]
+
+-- and nothing else is
+pub lowest-one : (n : ℕ) (f : ℕ → Bool) (o : Option ℕ) → IsLowest n f o → lowestBelow n f ≡ o
+lowest-one n f o r = go (lowestBelow n f) o (lowest-is n f) r
+  where
+    go : (o p : Option ℕ) → IsLowest n f o → IsLowest n f p → o ≡ p
+    go none none r s = refl
+    go none (some t) r s = absurd (against (r t (s .0)) (s .1))
+    go (some t) none r s = absurd (against (s t (r .0)) (r .1))
+    go (some t) (some u) r s = elim (ℕ-discrete t u) [
+      | yes e ↦ ap some e
+      | no e ↦ absurd (by (ltb t u) ⊥
+          (λ q. against (s .2 t (ltb-true t u q)) (r .1))
+          (λ q. against (r .2 u (omega (arith, ltb-false t u q))) (s .1)))
+    ]
+
+pub lowest-same : (n : ℕ) (f g : ℕ → Bool) → ((k : ℕ) → k < n → f k ≡ g k) → lowestBelow n f ≡ lowestBelow n g
+unfolding lowestBelow
+lowest-same zero f g h = refl
+lowest-same (suc n) f g h = rw (h n (omega arith), lowest-same n f g (λ k l. h k (omega arith)))
 
 -- ---- a number below m * n is a place below m and one below n
 module _ (m n : ℕ) (pos : zero < n) (g : ℕ → ℕ → Bool) where

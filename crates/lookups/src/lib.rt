@@ -118,6 +118,6 @@ pub fn is_uncovered(
     let l = d.lock;
     let k = l.scope;
     let c = l.coverage;
-    let touches = state::is_vehicle(k) | state::same_scope(k, scope) | c.overlaps(coverage);
+    let touches = state::is_vehicle(k) | state::same_scope(k, scope) | c.meets(coverage);
     (l.subject == subject) & (now < d.expires) & touches & !covers_defunct(scope, coverage, d)
 }

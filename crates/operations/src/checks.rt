@@ -127,7 +127,7 @@ fn in_conflict(new: ActiveLock, a: ActiveLock) -> bool
 {
     let lock = new.lock;
     let scope = lock.scope;
-    a.lock.coverage.overlaps(new.lock.coverage)
+    a.lock.coverage.meets(new.lock.coverage)
         & (a.lock.subject != new.lock.subject)
         & !state::is_vehicle(scope)
 }

@@ -54,7 +54,7 @@ fn clear(words: &[u64], whole: &[bool], scopes: &[usize], subjects: &[u16], i: u
         let y = cover_at(words, whole, j);
         let w = scopes[j] == 0;
         let f = u == subjects[j];
-        if !v & !w & x.overlaps(y) & !f {
+        if !v & !w & x.meets(y) & !f {
             return false;
         }
         j += 1;
@@ -81,7 +81,7 @@ fn settled(
     if same & (subjects[i] == subjects[0]) {
         return true;
     }
-    if !all.overlaps(cover_at(words, whole, i)) {
+    if !all.meets(cover_at(words, whole, i)) {
         return true;
     }
     clear(words, whole, scopes, subjects, i)

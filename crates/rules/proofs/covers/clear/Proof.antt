@@ -11,7 +11,7 @@ use Rattle.rules.proofs.covers.clear.Statement.{statement}
 use Rattle.rules.proofs.covers.clear.Tie as tie
 use Rattle.rules.proofs.covers.clear.Reads as reads
 use Rattle.rules.proofs.covers.clear.Lts as lts
-use Rattle.coverage.proofs.LockCoverage.overlaps.Reads as overlaps-reads
+use Rattle.coverage.proofs.LockCoverage.meets.Reads as meets-reads
 use Rattle.rules.proofs.covers.cover_at.Reads as cover-at-reads
 
 abbrev Inv-loop : tie.InvT-loop
@@ -53,15 +53,15 @@ mul-f c = omega arith
 shared-slice-read-f : tie.Need-shared-slice-read-f Inv-loop μ-loop
 shared-slice-read-f c = omega arith
 
-overlaps-requires : tie.Need-overlaps-requires Inv-loop μ-loop
-overlaps-requires c κs = tt
+meets-requires : tie.Need-meets-requires Inv-loop μ-loop
+meets-requires c κs = tt
 
 returns : tie.Need-returns Inv-loop μ-loop
 returns c =
     let o = c .before .before .before .before .before .before in
     let p = o .before .before .before .before .before .before .before .before .args in
     sym (all-no (p .i) (λ j. non (clashAt (p .words .now) (p .whole .now) (p .scopes .now) (p .subjects .now) (p .i) j)) (o .loop .j) (c .before .before .before .before .before .loop-test .taken)
-    (clash-yes (p .words .now) (p .whole .now) (p .scopes .now) (p .subjects .now) (p .i) (o .loop .j) _ _ _ (c .before .overlaps .ensures) (o .before .before .before .cover-at .ensures) (c .before .before .before .before .cover-at2 .ensures) (c .if1 .taken)))
+    (clash-yes (p .words .now) (p .whole .now) (p .scopes .now) (p .subjects .now) (p .i) (o .loop .j) _ _ _ (c .before .meets .ensures) (o .before .before .before .cover-at .ensures) (c .before .before .before .before .cover-at2 .ensures) (c .if1 .taken)))
 
 add-j : tie.Need-add-j Inv-loop μ-loop
 add-j c = omega arith
@@ -75,7 +75,7 @@ loop-again c =
     let p = o .before .before .before .before .before .before .before .before .args in (
       omega arith,
       below-more (λ k. non (clashAt (p .words .now) (p .whole .now) (p .scopes .now) (p .subjects .now) (p .i) k) ≡ true) (o .loop .j) (o .loop .inv .1)
-          (clash-no (p .words .now) (p .whole .now) (p .scopes .now) (p .subjects .now) (p .i) (o .loop .j) _ _ _ (c .before .overlaps .ensures) (o .before .before .before .cover-at .ensures) (c .before .before .before .before .cover-at2 .ensures) (c .if1 .left)),
+          (clash-no (p .words .now) (p .whole .now) (p .scopes .now) (p .subjects .now) (p .i) (o .loop .j) _ _ _ (c .before .meets .ensures) (o .before .before .before .cover-at .ensures) (c .before .before .before .before .cover-at2 .ensures) (c .if1 .left)),
     )
 
 returns-2 : tie.Need-returns-2 Inv-loop μ-loop
@@ -101,7 +101,7 @@ clear-spec =
     shared-slice-read-w
     mul-f
     shared-slice-read-f
-    overlaps-requires
+    meets-requires
     returns
     add-j
     loop-less

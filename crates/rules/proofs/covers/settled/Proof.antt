@@ -7,7 +7,7 @@ use Rattle.rules.proofs.covers.settled.Statement.{statement}
 use Rattle.rules.proofs.covers.settled.Tie as tie
 use Rattle.rules.proofs.covers.settled.Reads as reads
 use Rattle.rules.proofs.covers.settled.Lts as lts
-use Rattle.coverage.proofs.LockCoverage.overlaps.Reads as overlaps-reads
+use Rattle.coverage.proofs.LockCoverage.meets.Reads as meets-reads
 use Rattle.rules.proofs.covers.clear.Reads as clear-reads
 use Rattle.rules.proofs.covers.cover_at.Reads as cover-at-reads
 
@@ -39,13 +39,13 @@ returns-2 c =
 cover-at-requires : tie.Need-cover-at-requires
 cover-at-requires c κs = search needs
 
-overlaps-requires : tie.Need-overlaps-requires
-overlaps-requires c κs = search needs
+meets-requires : tie.Need-meets-requires
+meets-requires c κs = search needs
 
 returns-3 : tie.Need-returns-3
 returns-3 c =
     let p = c .before .before .before .before .before .before .before .before .before .before .before .before .args in
-    sym (none-met (p .words .now) (p .whole .now) (p .scopes .now) (p .subjects .now) (p .i) (p .same) (p .all) (c .before .before .before .before .before .before .before .before .before .before .before .before .pre .4) _ _ (c .before .overlaps .ensures) (c .before .before .cover-at .ensures) (not-true _ (c .if3 .taken)))
+    sym (none-met (p .words .now) (p .whole .now) (p .scopes .now) (p .subjects .now) (p .i) (p .same) (p .all) (c .before .before .before .before .before .before .before .before .before .before .before .before .pre .4) _ _ (c .before .meets .ensures) (c .before .before .cover-at .ensures) (not-true _ (c .if3 .taken)))
 
 clear-requires : tie.Need-clear-requires
 clear-requires c κs = search needs
@@ -65,7 +65,7 @@ settled-spec =
     shared-slice-read-if2-2
     returns-2
     cover-at-requires
-    overlaps-requires
+    meets-requires
     returns-3
     clear-requires
     returns-4)
