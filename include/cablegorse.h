@@ -50,7 +50,9 @@ enum cablegorse_number {
     CABLEGORSE_PARENT_NOT_FOUND = 4,             /* id */
     CABLEGORSE_PARENT_NOT_VEHICLE = 5,           /* id */
     CABLEGORSE_REPLACEMENT_SCOPE_CONFLICT = 6,
-    CABLEGORSE_COVERAGE_CONFLICT = 7,            /* id of the lock that is in the way */
+    CABLEGORSE_COVERAGE_CONFLICT = 7,            /* [id, 1, ECU]: the lock that is in the way, the lowest ECU in both
+                                                    (of the whole vehicle and a set, the set's lowest); [id, 0, 0]: both
+                                                    are the whole vehicle, or one is and the other the empty set */
     CABLEGORSE_REVISION_OVERFLOW = 8,            /* entries to acknowledge, expire or delete are gone all the same */
     CABLEGORSE_LOCK_EXPIRED = 9,
     CABLEGORSE_RENEWAL_NOT_EXTENSION = 10,

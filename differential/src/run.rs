@@ -2,7 +2,7 @@
 //! What the differential run does. It goes by blocks: a block has its own seed, so that any
 //! number of threads gives the same run and a block that failed can be run alone.
 
-use cablegorse::Replica;
+use cablegorse::{Refusal, Replica};
 use oracle::{
     boundary::{self, Told},
     generate::{self, Case, Profile, Rng},
@@ -738,9 +738,19 @@ fn check_run(run: &cablegorse::Run, due: &boundary::Run, spare: &Replica) {
 }
 
 /// The wrapper says what the boundary said, and keeps the image that was written.
-fn check_step(step: &cablegorse::Step, full: &boundary::Full, spare: &Replica, before: &[u8]) {
+pub(crate) fn check_step(
+    step: &cablegorse::Step,
+    full: &boundary::Full,
+    spare: &Replica,
+    before: &[u8],
+) {
     let applied = &full.applied;
     assert_eq!(step.number(), applied.told.number);
+    if let Err(Refusal::CoverageConflict { id, ecu }) = step.answer {
+        let [first, second] = id.halves();
+        let (named, ecu) = ecu.map_or((0, 0), |ecu| (1, ecu.into()));
+        assert_eq!(applied.told, Told::new(7, &[first, second, named, ecu]));
+    }
     assert_eq!(step.applied, applied.part == 2);
     assert_eq!(step.sequence, applied.sequence);
     assert_eq!(step.place as u64, applied.place);

@@ -56,10 +56,11 @@ impl Tally {
     }
 }
 
-/// Number, and the reason of 11 and the rule of 12, which are answers of their own.
+/// Number, and the reason of 11, the rule of 12 and a 7 at no ECU, which are answers of their own.
 #[must_use]
 pub fn label(told: &Told) -> String {
     match told.number {
+        7 if told.values[2] == 0 => "7 no ECU".to_owned(),
         11 | 12 => format!("{}.{}", told.number, told.values[0]),
         number => number.to_string(),
     }
@@ -67,8 +68,8 @@ pub fn label(told: &Told) -> String {
 
 /// Every answer that can be had through the boundary. 14 can't: records hold whole ids. 12 with
 /// rule 0 can't: what breaks it in an image is 19 or 20. 11.0 is proved never to be given.
-pub const REACHABLE: [&str; 38] = [
-    "0", "1", "2", "3", "4", "5", "6", "7", "8", "9", "10", "11.1", "11.2", "11.3", "11.4", "12.1",
-    "12.2", "12.3", "12.4", "12.5", "12.6", "12.7", "12.8", "12.9", "13", "15", "16", "17", "18",
-    "19", "20", "21", "22", "23", "24", "25", "26", "27",
+pub const REACHABLE: [&str; 39] = [
+    "0", "1", "2", "3", "4", "5", "6", "7", "7 no ECU", "8", "9", "10", "11.1", "11.2", "11.3",
+    "11.4", "12.1", "12.2", "12.3", "12.4", "12.5", "12.6", "12.7", "12.8", "12.9", "13", "15",
+    "16", "17", "18", "19", "20", "21", "22", "23", "24", "25", "26", "27",
 ];

@@ -12,7 +12,9 @@ use std::{
     time::Duration,
 };
 
-use cablegorse::{Active, Coverage, Lock, LockId, Operation, Refusal, Replica, Run, Scope};
+use cablegorse::{
+    Active, Coverage, Lock, LockId, Operation, Overlap, Refusal, Replica, Run, Scope,
+};
 
 use drill::{
     link::{self, Link, Weather},
@@ -407,8 +409,10 @@ impl Side<'_> {
             let (_, step) = state
                 .perform(&Operation::InsertActive { lock: rival })
                 .map_err(|e| e.to_string())?;
-            if !matches!(step.answer, Err(Refusal::CoverageConflict { .. })) {
-                return Err(format!("a second tester got {:?}", step.answer));
+            // Whoever is in the way, the rival has this ECU alone.
+            match step.answer {
+                Err(Refusal::CoverageConflict { ecu: Some(at), .. }) if at == ecu => {}
+                answer => return Err(format!("a second tester of ECU {ecu} got {answer:?}")),
             }
             self.sums.refused_rivals += 1;
         }
@@ -459,7 +463,9 @@ pub fn one_subject_each(state: &Replica) -> Outcome {
         .collect();
     for (place, a) in narrow.iter().enumerate() {
         for b in &narrow[place + 1..] {
-            if a.lock.subject != b.lock.subject && a.lock.coverage.overlaps(&b.lock.coverage) {
+            if a.lock.subject != b.lock.subject
+                && a.lock.coverage.overlaps(&b.lock.coverage) != Overlap::Apart
+            {
                 return Err(format!("two subjects overlap: {a:?} and {b:?}"));
             }
         }

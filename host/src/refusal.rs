@@ -121,10 +121,13 @@ pub enum Refusal {
     },
     /// 6: the scope is held by a lock that the replacement doesn't remove.
     ReplacementScopeConflict,
-    /// 7: another subject's lock covers some of the same ECUs.
+    /// 7: the coverage of another subject's lock overlaps.
     CoverageConflict {
         /// The lock that is in the way.
         id: LockId,
+        /// The lowest ECU that both cover; of the whole vehicle and a set, the set's lowest. None
+        /// where both cover the whole vehicle, or one does and the other is the empty set.
+        ecu: Option<u8>,
     },
     /// 8: the last revision was reached. Acknowledgement, `expire_defunct` and `delete_defunct`
     /// have taken their entries out all the same.
@@ -217,7 +220,10 @@ impl Refusal {
             4 => Self::ParentNotFound { parent: id },
             5 => Self::ParentNotVehicle { parent: id },
             6 => Self::ReplacementScopeConflict,
-            7 => Self::CoverageConflict { id },
+            7 => Self::CoverageConflict {
+                id,
+                ecu: (v2 != 0).then_some(v3 as u8),
+            },
             8 => Self::RevisionOverflow,
             9 => Self::LockExpired,
             10 => Self::RenewalNotExtension,
@@ -335,7 +341,7 @@ const BROKEN: [&str; 10] = [
 
 impl fmt::Display for Refusal {
     /// The number, the name, and what is the matter, for a person:
-    /// `7 CoverageConflict: lock 00000000-0000-0000-0000-000000000001 is in the way`.
+    /// `7 CoverageConflict: lock 00000000-0000-0000-0000-000000000001 is in the way at ECU 6`.
     fn fmt(&self, f: &mut fmt::Formatter<'_>) -> fmt::Result {
         write!(f, "{} {}: ", self.number(), self.name())?;
         let text = match self {
@@ -347,7 +353,12 @@ impl fmt::Display for Refusal {
                 return write!(f, "the parent {parent} isn't a vehicle lock");
             }
             Self::ReplacementScopeConflict => "a lock that isn't among those broken has the scope",
-            Self::CoverageConflict { id } => return write!(f, "lock {id} is in the way"),
+            Self::CoverageConflict { id, ecu: Some(ecu) } => {
+                return write!(f, "lock {id} is in the way at ECU {ecu}");
+            }
+            Self::CoverageConflict { id, ecu: None } => {
+                return write!(f, "lock {id} is in the way, no ECU to name");
+            }
             Self::RevisionOverflow => "the last revision is reached",
             Self::LockExpired => "the lock has expired",
             Self::RenewalNotExtension => "the new expiry isn't later than the old one",

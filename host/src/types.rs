@@ -175,17 +175,34 @@ impl Coverage {
         Self::Set(ecus.iter().copied().collect())
     }
 
-    /// Whether two coverages overlap: the whole vehicle with everything, the empty set too; two
-    /// sets where they share an ECU.
+    /// Where two coverages overlap, if they do: the whole vehicle with everything, the empty set
+    /// too; two sets where they share an ECU.
     #[must_use]
-    pub fn overlaps(&self, other: &Self) -> bool {
+    pub fn overlaps(&self, other: &Self) -> Overlap {
         match (self, other) {
-            (Self::Set(left), Self::Set(right)) => {
-                left.0.iter().zip(right.0).any(|(a, b)| a & b != 0)
+            (Self::Vehicle, Self::Vehicle) => Overlap::Meets(None),
+            (Self::Vehicle, Self::Set(set)) | (Self::Set(set), Self::Vehicle) => {
+                Overlap::Meets(set.iter().next())
             }
-            _ => true,
+            (Self::Set(left), Self::Set(right)) => {
+                match left.iter().find(|ecu| right.contains(*ecu)) {
+                    None => Overlap::Apart,
+                    lowest => Overlap::Meets(lowest),
+                }
+            }
         }
     }
+}
+
+/// Where two coverages overlap ([`Coverage::overlaps`]).
+#[derive(Clone, Copy, Debug, PartialEq, Eq, Hash)]
+pub enum Overlap {
+    /// Nowhere.
+    Apart,
+    /// At this ECU, the lowest that both cover; of the whole vehicle and a set, the set's lowest.
+    /// None where both are the whole vehicle, or one is and the other is the empty set: they
+    /// overlap, and there is no ECU to name.
+    Meets(Option<u8>),
 }
 
 /// What active and defunct locks share.

@@ -84,7 +84,10 @@ fn insertion_and_conflicts() {
     let group = |ecus: &[u8]| lock(2, Scope::FunctionalGroup(3), ecus, 2);
     assert_eq!(
         insert(&mut spare, group(&[5, 6])),
-        Err(Refusal::CoverageConflict { id: id(1) })
+        Err(Refusal::CoverageConflict {
+            id: id(1),
+            ecu: Some(5)
+        })
     );
     // Refused, but the number moved on and the revision didn't.
     assert_eq!((spare.revision(), spare.expected()), (1, 2));
@@ -114,6 +117,13 @@ fn insertion_and_conflicts() {
             }
         })
     );
+    // The vehicle's lock is in everybody's way, at their lowest ECU if they have one.
+    for (ecus, ecu) in [(&[][..], None), (&[200, 9][..], Some(9))] {
+        assert_eq!(
+            insert(&mut spare, lock(5, Scope::Ecu(9), ecus, 1)),
+            Err(Refusal::CoverageConflict { id: id(8), ecu })
+        );
+    }
     assert_eq!(spare.active_count(), 3);
     assert_eq!(spare.vehicle_lock_owner_sub(), Some(3));
 }
@@ -580,8 +590,12 @@ fn refusals_in_words() {
         Refusal::from_told(&told).unwrap().to_string()
     };
     assert_eq!(
+        text(7, [0, 1, 1, 6, 0]),
+        "7 CoverageConflict: lock 00000000-0000-0000-0000-000000000001 is in the way at ECU 6"
+    );
+    assert_eq!(
         text(7, [0, 1, 0, 0, 0]),
-        "7 CoverageConflict: lock 00000000-0000-0000-0000-000000000001 is in the way"
+        "7 CoverageConflict: lock 00000000-0000-0000-0000-000000000001 is in the way, no ECU to name"
     );
     assert_eq!(
         text(12, [8, 0, 0, 0, 0]),

@@ -3,7 +3,7 @@
 
 use cablegorse::{
     ACTIVE_BYTES, Active, Coverage, DEFUNCT_BYTES, Defunct, EcuSet, LIST_LIMIT, ListTooLong, Lock,
-    LockId, NameTable, Named, Operation, Refusal, Scope, TABLE_BYTES,
+    LockId, NameTable, Named, Operation, Overlap, Refusal, Scope, TABLE_BYTES,
 };
 
 fn full() -> Active {
@@ -166,8 +166,37 @@ fn sets_hold_every_number() {
     let all: EcuSet = (0..=255).collect();
     assert_eq!(all.0, [255; 32]);
     assert!(all.iter().eq(0..=255));
-    assert!(Coverage::Vehicle.overlaps(&Coverage::of(&[])));
-    assert!(!Coverage::of(&[1]).overlaps(&Coverage::of(&[2])));
+}
+
+/// The lowest ECU in both, whichever is asked; none to name where no set names one.
+#[test]
+fn where_coverages_overlap() {
+    let whole = Coverage::Vehicle;
+    let same = |left: Coverage, right: Coverage, due: Overlap| {
+        assert_eq!(left.overlaps(&right), due, "{left:?}, {right:?}");
+        assert_eq!(right.overlaps(&left), due, "{right:?}, {left:?}");
+    };
+    let empty = Coverage::of(&[]);
+    same(whole, whole, Overlap::Meets(None));
+    same(whole, empty, Overlap::Meets(None));
+    same(empty, empty, Overlap::Apart);
+    for ecu in [0, 1, 62, 63, 64, 126, 127, 128, 190, 191, 192, 254, 255] {
+        let due = Overlap::Meets(Some(ecu));
+        let one = Coverage::of(&[ecu]);
+        let from = Coverage::Set((ecu..=255).collect());
+        let to = Coverage::Set((0..=ecu).collect());
+        same(one, one, due);
+        same(from, to, due);
+        same(whole, from, due);
+        // Lower ones that only one of the two has.
+        let some = |bit| Coverage::Set((0..=255).filter(|e| *e >= ecu || e % 2 == bit).collect());
+        same(some(0), some(1), due);
+        same(one, empty, Overlap::Apart);
+        if let Some(below) = ecu.checked_sub(1) {
+            same(Coverage::of(&[below]), one, Overlap::Apart);
+            same(Coverage::Set((0..=below).collect()), from, Overlap::Apart);
+        }
+    }
 }
 
 #[test]

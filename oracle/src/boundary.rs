@@ -2,10 +2,12 @@
 //! What the static library must answer, worked out by the judge: the same numbers, values and
 //! bytes, into the same kind of buffers. include/cablegorse.h has the tables.
 
+use std::collections::BTreeSet;
+
 use crate::{
     answer::{Class, Refusal, Seen, Told as Word},
     judge::{self, Event, Judge, Spare},
-    model::{Coverage, Id, Operation, Read, Scope, TesterPresent},
+    model::{Coverage, Id, Operation, Read, Scope, State, TesterPresent},
     names, wire,
 };
 
@@ -33,16 +35,19 @@ impl Told {
         Self::new(refusal.number(), &[refusal.place() as u64])
     }
 
-    /// An operation's answer; `kind` is its feed kind, 0 for `delete_defunct`. A 0 says which: of
-    /// begin_expiration 0, 1 Stale or 2 NotDue with the time; of acknowledgements 1 or 0.
-    fn of(word: &Word, kind: u16) -> Self {
+    /// The answer of an operation on this state. A 0 says which: of begin_expiration 0, 1 Stale
+    /// or 2 NotDue with the time; of acknowledgements 1 or 0. A 7 says where, after the id.
+    fn of(word: &Word, operation: &Operation, entry: &State) -> Self {
         let flat = word.flat();
         let mut values: Vec<u64> = Vec::new();
-        match (word, kind) {
-            (Word::Done, 20) => values.push(0),
+        match (word, operation) {
+            (Word::Done, Operation::BeginExpiration { .. }) => values.push(0),
             (Word::Stale, _) => values.push(1),
             (Word::NotDue(time), _) => values.extend([2, *time]),
-            (Word::Done, 22 | 0) => values.push(1),
+            (
+                Word::Done,
+                Operation::AcknowledgeDefunct { .. } | Operation::DeleteDefunct { .. },
+            ) => values.push(1),
             (Word::False, _) => values.push(0),
             (Word::Invariant(reason), _) => values.push(reason.number().into()),
             (Word::UnsoundState(rule), _) => values.push((*rule).into()),
@@ -51,7 +56,38 @@ impl Told {
         for id in [flat.first, flat.second].into_iter().flatten() {
             values.extend(id.words());
         }
+        if let Word::CoverageConflict(id) = word {
+            values.extend(match in_the_way_at(*id, operation, entry) {
+                None => [0, 0],
+                Some(ecu) => [1, ecu.into()],
+            });
+        }
         Self::new(flat.number, &values)
+    }
+}
+
+/// Where the lock that the original names is in an operation's way; the original doesn't say.
+fn in_the_way_at(id: Id, operation: &Operation, entry: &State) -> Option<u8> {
+    let (Operation::InsertActive { lock } | Operation::CommitReplacement { lock, .. }) = operation
+    else {
+        panic!("7 of {operation:?}");
+    };
+    // What a replacement takes out isn't in its way, so this lock stays as it was at entry.
+    let other = entry.active_at(id).expect("the lock in the way is active");
+    lowest_shared(&other.lock.coverage, &lock.lock.coverage)
+}
+
+/// The lowest ECU that two overlapping coverages share. The whole vehicle names none of its own:
+/// beside a set it is the set's lowest.
+fn lowest_shared(one: &Coverage, other: &Coverage) -> Option<u8> {
+    let named = |coverage: &Coverage| match coverage {
+        Coverage::Vehicle => None,
+        Coverage::Set(set) => Some(set.iter().collect::<BTreeSet<u8>>()),
+    };
+    match (named(one), named(other)) {
+        (None, None) => None,
+        (None, Some(set)) | (Some(set), None) => set.first().copied(),
+        (Some(one), Some(other)) => (&one & &other).first().copied(),
     }
 }
 
@@ -152,8 +188,9 @@ pub fn step(judge: &Judge, expected: u32, feed: &[u8], at: usize) -> Full {
             expired,
         } => (sequence, told, removed, expired),
     };
-    let kind = u16::from_le_bytes([feed[at + 2], feed[at + 3]]);
-    let mut full = Full::stay(2, Told::of(&told, kind), sequence, step.next);
+    let record = wire::read_feed(feed, at).expect("it was applied");
+    let told = Told::of(&told, &record.operation, judge.state());
+    let mut full = Full::stay(2, told, sequence, step.next);
     let Spare { state, expected } = step.spare;
     full.next = wire::write_image(&state, expected).expect("a sound state stays sound");
     full.removed = removed.iter().flat_map(wire::active_record).collect();
@@ -282,7 +319,8 @@ pub fn delete_defunct(
 /// The same on a sound state that is in the judge already.
 pub fn dropped(judge: &Judge, expected: u32, operation: &Operation, next: &mut [u8]) -> Applied {
     let outcome = judge.apply(operation);
-    let mut full = Full::stay(2, Told::of(&outcome.told, 0), 0, 0);
+    let told = Told::of(&outcome.told, operation, judge.state());
+    let mut full = Full::stay(2, told, 0, 0);
     if outcome.state != *judge.state() {
         full.next = wire::write_image(&outcome.state, expected).expect("a sound state stays sound");
         full.applied.written = full.next.len() as u64;
@@ -514,5 +552,130 @@ pub fn response_class(number: u64) -> u32 {
         Some(Class::Conflict) => 2,
         Some(Class::InternalServerError) => 3,
         Some(Class::Forbidden) => 4,
+    }
+}
+
+#[cfg(test)]
+mod tests {
+    use super::*;
+    use crate::model::{Active, IdList, Lock};
+
+    /// The places where a word or a byte of a set ends, and both ends.
+    const PLACES: [u8; 16] = [
+        0, 1, 7, 8, 62, 63, 64, 65, 127, 128, 191, 192, 193, 247, 254, 255,
+    ];
+
+    fn set(ecus: impl Iterator<Item = u8>) -> Coverage {
+        Coverage::of(&ecus.collect::<Vec<u8>>())
+    }
+
+    fn same(one: &Coverage, other: &Coverage, due: Option<u8>) {
+        assert_eq!(lowest_shared(one, other), due, "{one:?}, {other:?}");
+        assert_eq!(lowest_shared(other, one), due, "{other:?}, {one:?}");
+    }
+
+    #[test]
+    fn no_ecu_to_name() {
+        let (whole, empty) = (Coverage::Vehicle, Coverage::of(&[]));
+        same(&whole, &whole, None);
+        same(&whole, &empty, None);
+    }
+
+    #[test]
+    fn the_lowest_of_those_shared() {
+        for ecu in PLACES {
+            let from = set(ecu..=255);
+            same(&set(0..=ecu), &from, Some(ecu));
+            same(&Coverage::of(&[ecu]), &Coverage::of(&[ecu]), Some(ecu));
+            same(&Coverage::Vehicle, &from, Some(ecu));
+            // Lower ones that one alone has.
+            let some = |bit| set((0..=255).filter(move |e| *e >= ecu || e % 2 == bit));
+            same(&some(0), &some(1), Some(ecu));
+        }
+    }
+
+    /// By the other definition: the first number that both cover, unless nobody names any.
+    #[test]
+    fn as_found_by_going_over_all() {
+        let mut all = vec![Coverage::Vehicle, Coverage::of(&[]), set(0..=255)];
+        for ecu in PLACES {
+            all.extend([
+                Coverage::of(&[ecu]),
+                set(ecu..=255),
+                set(0..=ecu),
+                set((ecu..=255).step_by(3)),
+            ]);
+        }
+        for one in &all {
+            for other in &all {
+                let named = [one, other].iter().any(|c| **c != Coverage::Vehicle);
+                let due = (0..=255).find(|ecu| named && one.covers(*ecu) && other.covers(*ecu));
+                if one.overlaps(other) {
+                    assert_eq!(lowest_shared(one, other), due, "{one:?}, {other:?}");
+                } else {
+                    assert_eq!(due, None);
+                }
+            }
+        }
+    }
+
+    fn lock(number: u128, scope: Scope, coverage: Coverage, subject: u16) -> Active {
+        Active {
+            lock: Lock {
+                id: Id::from_number(number),
+                scope,
+                exclusive: false,
+                coverage,
+                subject,
+                principal: 0,
+                metadata: 0,
+            },
+            expires: 100,
+            parent: None,
+        }
+    }
+
+    /// 7 has four values, by insertion and by a replacement whose root would be in the way first.
+    #[test]
+    fn what_a_conflict_tells() {
+        let high = 5 << 64;
+        let cases = [
+            (
+                Coverage::of(&[3, 70, 200]),
+                Coverage::of(&[4, 70, 200]),
+                [1, 70],
+            ),
+            (Coverage::Vehicle, Coverage::of(&[9, 4]), [1, 4]),
+            (Coverage::Vehicle, Coverage::Vehicle, [0, 0]),
+            (Coverage::of(&[]), Coverage::Vehicle, [0, 0]),
+        ];
+        for (there, coverage, [flag, ecu]) in cases {
+            let state = State {
+                revision: 0,
+                active: vec![
+                    lock(1, Scope::Ecu(9), coverage, 1),
+                    lock(high + 2, Scope::Group(3), there, 1),
+                ],
+                defunct: vec![],
+            };
+            let new = lock(high + 3, Scope::Ecu(9), coverage, 2);
+            let replacement = Operation::CommitReplacement {
+                roots: IdList::of(&[Id::from_number(1)]),
+                lock: new,
+                broken_by: 0,
+                broken_at: 0,
+            };
+            let alone = State {
+                active: state.active[1..].to_vec(),
+                ..State::default()
+            };
+            let insertion = Operation::InsertActive { lock: new };
+            for (state, operation) in [(alone, insertion), (state, replacement)] {
+                let record = wire::write_feed(&operation, 0).expect("a feed operation");
+                let full = step(&Judge::new(&state), 0, &record, 0);
+                assert_eq!(full.applied.told, Told::new(7, &[5, 2, flag, ecu]));
+                assert_eq!(full.applied.part, 2);
+            }
+        }
     }
 }

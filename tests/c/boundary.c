@@ -118,7 +118,13 @@ static void fields(void) {
     CHECK(a.part == CABLEGORSE_PART_APPLIED && a.sequence == 0x99aabbcd && a.place == 98);
     CHECK(a.written == CABLEGORSE_HEAD_BYTES + CABLEGORSE_ACTIVE_BYTES && a.gone == 0 && a.lapsed == 0);
 
-    begin(CABLEGORSE_KIND_DELETE, 0x99aabbce, 24);
+    /* 7 at no ECU: the whole vehicle is locked, the other covers nothing. */
+    insert(0x99aabbce, 8, CABLEGORSE_SCOPE_GROUP, 5, 2, 0, 0);
+    a = apply(0, record, record_len);
+    CHECK(a.number == CABLEGORSE_COVERAGE_CONFLICT && a.count == 4);
+    CHECK(a.v[0] == 7 && a.v[1] == 7 && a.v[2] == 0 && a.v[3] == 0 && a.v[4] == 0);
+
+    begin(CABLEGORSE_KIND_DELETE, 0x99aabbcf, 24);
     record[8 + 7] = record[8 + 15] = 7;
     a = apply(0, record, record_len);
     CHECK(a.number == CABLEGORSE_DONE && a.gone == 1 && a.lapsed == 0 && a.written == CABLEGORSE_HEAD_BYTES);
@@ -135,7 +141,8 @@ static void refused_is_applied(void) {
     memcpy(old, image, image_len);
     insert(1, 2, CABLEGORSE_SCOPE_GROUP, 3, 2, 1 << 5 | 1 << 6, 0);
     cablegorse_applied a = apply(0, record, record_len);
-    CHECK(a.number == CABLEGORSE_COVERAGE_CONFLICT && a.count == 2 && a.v[0] == 1 && a.v[1] == 1);
+    CHECK(a.number == CABLEGORSE_COVERAGE_CONFLICT && a.count == 4 && a.v[0] == 1 && a.v[1] == 1);
+    CHECK(a.v[2] == 1 && a.v[3] == 5 && a.v[4] == 0);
     CHECK(a.part == CABLEGORSE_PART_APPLIED && a.written == image_len);
     CHECK(cablegorse_response_class(a.number) == CABLEGORSE_CLASS_CONFLICT);
     insert(2, 2, CABLEGORSE_SCOPE_GROUP, 3, 2, 1 << 6, 0);

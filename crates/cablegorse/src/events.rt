@@ -3,8 +3,10 @@
 use crate::Told;
 use crate::papers;
 use calls::Outcome;
+use coverage::Spot;
 use feed::events::Event;
 use feed::numbers;
+use ids::LockId;
 use operations::answers::Acknowledgement;
 use operations::answers::Answer;
 use operations::answers::DefunctExpiry;
@@ -13,12 +15,22 @@ use operations::answers::Expiration;
 use operations::answers::Renewal;
 ghost use mathlib.Core.Path.{_≡_};
 ghost use Rattle.lists.specs.Papers.{paper};
-ghost use Rattle.operations.specs.Answers.{paperOf, renewalPaper, deletionPaper, expirationPaper, acknowledgementPaper, expiryPaper};
+ghost use Rattle.lookups.specs.Papers.{idValues};
+ghost use Rattle.operations.specs.Answers.{spotValues, paperOf, renewalPaper, deletionPaper, expirationPaper, acknowledgementPaper, expiryPaper};
 ghost use Rattle.calls.specs.Calls.{outcomePaper};
 ghost use Rattle.feed.specs.Feed.{eventPaper};
 ghost use Rattle.cablegorse.specs.Telling.{toldOf};
 
 // ---- the values of each kind of answer, beside the number that is given
+fn of_conflict(n: u32, id: LockId, at: Spot) -> Told
+    ensures { λ r. ⌜ r ≡ toldOf (paper n (idValues id (spotValues at))) ⌝ }
+{
+    match at {
+        Spot::NoEcu => papers::four(n, id.hi, id.lo, 0, 0),
+        Spot::Ecu(e) => papers::four(n, id.hi, id.lo, 1, e as u64),
+    }
+}
+
 fn of_answer(n: u32, a: Answer) -> Told
     ensures { λ r. ⌜ r ≡ toldOf (paper n (paperOf a .values)) ⌝ }
 {
@@ -30,7 +42,7 @@ fn of_answer(n: u32, a: Answer) -> Told
         Answer::ParentNotFound(i) => papers::two(n, i.hi, i.lo),
         Answer::ParentNotVehicle(i) => papers::two(n, i.hi, i.lo),
         Answer::ReplacementScopeConflict => papers::none(n),
-        Answer::CoverageConflict(i) => papers::two(n, i.hi, i.lo),
+        Answer::CoverageConflict(i, at) => of_conflict(n, i, at),
         Answer::RevisionOverflow => papers::none(n),
         Answer::NotRootVehicle => papers::one(n, 1),
         Answer::BadChild(i) => papers::three(n, 2, i.hi, i.lo),

@@ -1,17 +1,21 @@
 -- What a check answers, from what the functions that it calls answer; chains of checks, link by link.
 -- Assumes nothing.
 use mathlib.Core.Path.{_≡_, refl, sym, ap, _∙_}
-use mathlib.Core.Bool.{Bool, true, false, not, cond, _&&_, _||_, true≢false}
+use mathlib.Core.Bool.{Bool, true, false, not, cond, _&&_, _||_, true≢false, false≢true}
 use mathlib.Core.List.{List, [], _∷_}
 use mathlib.Core.Option.{Option, none, some}
 use Prim.Native.Nat.{ℕ}
 use lib.Dec.{eqb}
 use borrow.Author.Tests.{not-true, not-false, eq-eqb, ne-eqb}
-use Rattle.lists.specs.Tests.{_and_, _or_, non}
+use Rattle.lists.specs.Tests.{_and_, _or_, non, Yes}
 use Rattle.lists.specs.Lists.{any, find, filter}
-use Rattle.lists.proofs.Tests.{by, cond-true, cond-false, non-t, non-f, or-code, codes}
+use Rattle.lists.proofs.Tests.{and-l, by, cond-true, cond-false, non-t, non-f, or-code, codes}
 use Rattle.ids.specs.Words.{oddWords}
-use Rattle.coverage.specs.Coverage.{overlap, within}
+use Rattle.coverage.specs.declared.Spot.{Spot}
+use Rattle.coverage.specs.declared.Overlap.{Overlap}
+use Rattle.coverage.specs.declared.Overlap.the-variants.{Apart, Meets}
+use Rattle.coverage.specs.Coverage.{overlap, shared, isMet, within}
+use Rattle.coverage.proofs.Shared.{shared-met, spot-shared}
 use Rattle.state.specs.declared.ActiveLock.{ActiveLock}
 use Rattle.state.specs.declared.DefunctLock.{DefunctLock}
 use Rattle.state.specs.Locks.{isVehicle, hasId, hasIdD}
@@ -19,7 +23,7 @@ use Rattle.lookups.specs.Reads.{onScope}
 use Rattle.operations.specs.declared.answers.Answer.{Answer}
 use Rattle.operations.specs.declared.answers.Answer.the-variants.{Done, DuplicateId, DuplicateScope, ParentNotFound, ParentNotVehicle, CoverageConflict, RevisionOverflow, OtherOwner, NotCovered, BadList}
 use Rattle.operations.specs.Answers.{isDone, refuseIf, andThen}
-use Rattle.operations.specs.Checks.{checkList, checkId, checkScope, conflicts, checkConflict, checkClear, checkRevision, atLast, lastRevision, checkOwner, checkCover, checkChild}
+use Rattle.operations.specs.Checks.{checkList, checkId, checkScope, conflicts, conflictWith, checkConflict, checkClear, checkRevision, atLast, lastRevision, checkOwner, checkCover, checkChild}
 use Rattle.operations.specs.Code.{checkParent, checkFound, checkNesting}
 
 -- ---- the combinators
@@ -108,6 +112,15 @@ pub conflicts-is : (x a : ActiveLock) (o v : Bool) → o ≡ overlap (a .lock .c
 unfolding conflicts
 conflicts-is x a o v e f = rw (e, f) (simp codes)
 
+-- locks in conflict overlap, so their answer is where they meet
+module _ (x a : ActiveLock) (o : Overlap) (e : o ≡ shared (a .lock .coverage) (x .lock .coverage)) where
+  pub conflict-meets : Yes (conflicts x a) → o ≡ Apart → ⊥
+  unfolding conflicts
+  conflict-meets t q = false≢true (ap isMet (sym q ∙ e) ∙ shared-met (a .lock .coverage) (x .lock .coverage) ∙ and-l _ _ (and-l _ _ t))
+
+  pub conflict-at : (at : Spot) → o ≡ Meets at → CoverageConflict (a .lock .id) at ≡ conflictWith x a
+  conflict-at at q = ap (CoverageConflict (a .lock .id)) (sym (spot-shared (a .lock .coverage) (x .lock .coverage) at (sym e ∙ q) .1))
+
 -- ---- the parent
 module _ (x p : ActiveLock) (v : Bool) (e : v ≡ isVehicle (p .lock .scope)) where
   pub parent-1 : not v ≡ true → ParentNotVehicle (x .parent) ≡ checkParent x p
@@ -149,13 +162,13 @@ module _ (l : List ActiveLock) (x : ActiveLock) where
     pub nesting-miss : find (hasId (x .parent)) l ≡ none → ParentNotFound (x .parent) ≡ checkNesting l x
     nesting-miss h = sym (nesting ∙ ap (checkFound x) h)
 
-  pub clear-hit : (a : ActiveLock) → find (conflicts x) l ≡ some a → CoverageConflict (a .lock .id) ≡ checkClear l x
+  pub clear-hit : (a : ActiveLock) → find (conflicts x) l ≡ some a → conflictWith x a ≡ checkClear l x
   unfolding checkClear
-  clear-hit a h = sym (ap checkConflict h)
+  clear-hit a h = sym (ap (checkConflict x) h)
 
   pub clear-miss : find (conflicts x) l ≡ none → Done ≡ checkClear l x
   unfolding checkClear
-  clear-miss h = sym (ap checkConflict h)
+  clear-miss h = sym (ap (checkConflict x) h)
 
 -- ---- 11.3, 11.4 of a child
 module _ (x a : ActiveLock) where

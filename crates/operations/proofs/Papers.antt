@@ -2,7 +2,9 @@
 -- Assumes nothing.
 use mathlib.Core.List.{List, [], _∷_}
 use mathlib.Core.Path.{_≡_, refl}
-use Prim.Native.Nat.{ℕ}
+use Prim.Native.Nat.{ℕ, suc}
+use Rattle.coverage.specs.declared.Spot.{Spot}
+use Rattle.coverage.specs.declared.Spot.the-variants.{NoEcu, Ecu}
 use Rattle.lists.specs.Papers.{Paper}
 use Rattle.lists.proofs.Papers.{pick, one-to-one, valueAt}
 use Rattle.lookups.proofs.Papers.{idAt}
@@ -21,6 +23,10 @@ use Rattle.operations.specs.declared.answers.DefunctExpiry.the-variants 
 use Rattle.operations.specs.Answers.{paperOf, renewalPaper, deletionPaper, expirationPaper, acknowledgementPaper, expiryPaper}
 
 -- ---- insertions and replacement
+-- the ECU that follows a 1
+spotAt : Paper → ℕ → Spot
+spotAt p i = pick (valueAt p i) ((1, Ecu (valueAt p (suc i))) ∷ []) NoEcu
+
 answerOf : Paper → Answer
 answerOf p =
     pick (p .number)
@@ -30,7 +36,7 @@ answerOf p =
     ∷ (4, ParentNotFound (idAt p 0))
     ∷ (5, ParentNotVehicle (idAt p 0))
     ∷ (6, ReplacementScopeConflict)
-    ∷ (7, CoverageConflict (idAt p 0))
+    ∷ (7, CoverageConflict (idAt p 0) (spotAt p 2))
     ∷ (8, RevisionOverflow)
     ∷ (11, pick (valueAt p 0) ((1, NotRootVehicle) ∷ (2, BadChild (idAt p 1)) ∷ (3, OtherOwner (idAt p 1) (idAt p 3)) ∷ (4, NotCovered (idAt p 1) (idAt p 3)) ∷ []) Invariant)
     ∷ (12, UnsoundState (valueAt p 0))
@@ -40,7 +46,7 @@ answerOf p =
     Done
 
 answer-back : (a : Answer) → answerOf (paperOf a) ≡ a
-unfolding answerOf paperOf
+unfolding answerOf spotAt paperOf
 answer-back Done = refl
 answer-back (DuplicateId i) = refl
 answer-back DuplicateScope = refl
@@ -48,7 +54,8 @@ answer-back (ActiveLockNotFound i) = refl
 answer-back (ParentNotFound i) = refl
 answer-back (ParentNotVehicle i) = refl
 answer-back ReplacementScopeConflict = refl
-answer-back (CoverageConflict i) = refl
+answer-back (CoverageConflict i NoEcu) = refl
+answer-back (CoverageConflict i (Ecu e)) = refl
 answer-back RevisionOverflow = refl
 answer-back NotRootVehicle = refl
 answer-back (BadChild i) = refl

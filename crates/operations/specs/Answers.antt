@@ -3,6 +3,8 @@ use mathlib.Core.Bool.{Bool, true, false, cond}
 use mathlib.Core.List.{List, [], _∷_}
 use Prim.Native.Nat.{ℕ}
 use Rattle.ids.specs.declared.LockId.{LockId}
+use Rattle.coverage.specs.declared.Spot.{Spot}
+use Rattle.coverage.specs.declared.Spot.the-variants.{NoEcu, Ecu}
 use Rattle.lists.specs.Papers.{Paper, paper}
 use Rattle.lookups.specs.Papers.{idValues}
 use Rattle.operations.specs.declared.answers.Answer.{Answer}
@@ -18,6 +20,11 @@ use Rattle.operations.specs.declared.answers.Acknowledgement.the-variant
 use Rattle.operations.specs.declared.answers.DefunctExpiry.{DefunctExpiry}
 use Rattle.operations.specs.declared.answers.DefunctExpiry.the-variants as expiry
 
+-- 02, C-13: beside 7's id the ECU after a 1, or two zeros where there is none
+abbrev pub spotValues : Spot → List ℕ
+spotValues NoEcu = 0 ∷ 0 ∷ []
+spotValues (Ecu e) = 1 ∷ e ∷ []
+
 -- 11 Invariant's reason stands first: "1 no root vehicle; 2 bad child, its id; 3 owner, 4 coverage: child's and parent's
 -- id"; the closing check's has none there and is given 0
 unfoldable pub paperOf : Answer → Paper
@@ -28,7 +35,7 @@ paperOf (ActiveLockNotFound i) = paper 3 (idValues i [])
 paperOf (ParentNotFound i) = paper 4 (idValues i [])
 paperOf (ParentNotVehicle i) = paper 5 (idValues i [])
 paperOf ReplacementScopeConflict = paper 6 []
-paperOf (CoverageConflict i) = paper 7 (idValues i [])
+paperOf (CoverageConflict i at) = paper 7 (idValues i (spotValues at))
 paperOf RevisionOverflow = paper 8 []
 paperOf NotRootVehicle = paper 11 (1 ∷ [])
 paperOf (BadChild i) = paper 11 (2 ∷ idValues i [])
@@ -82,7 +89,7 @@ isDone (ActiveLockNotFound i) = false
 isDone (ParentNotFound i) = false
 isDone (ParentNotVehicle i) = false
 isDone ReplacementScopeConflict = false
-isDone (CoverageConflict i) = false
+isDone (CoverageConflict i at) = false
 isDone RevisionOverflow = false
 isDone NotRootVehicle = false
 isDone (BadChild i) = false

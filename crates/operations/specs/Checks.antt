@@ -12,7 +12,7 @@ use Rattle.lists.specs.Tests.{_and_, _or_, non}
 use Rattle.lists.specs.Lists.{any, find}
 use Rattle.ids.specs.declared.LockId.{LockId}
 use Rattle.ids.specs.Words.{oddWords}
-use Rattle.coverage.specs.Coverage.{overlap, within}
+use Rattle.coverage.specs.Coverage.{overlap, spot, within}
 use Rattle.state.specs.declared.ActiveLock.{ActiveLock}
 use Rattle.state.specs.declared.DefunctLock.{DefunctLock}
 use Rattle.state.specs.Locks.{isVehicle, hasId, hasIdD}
@@ -69,12 +69,16 @@ checkParentCover active new =
 unfoldable pub conflicts : ActiveLock → ActiveLock → Bool
 conflicts new lock = overlap (lock .lock .coverage) (new .lock .coverage) and non (eqb (lock .lock .subject) (new .lock .subject)) and non (isVehicle (new .lock .scope))
 
-abbrev pub checkConflict : Option ActiveLock → Answer
-checkConflict none = Done
-checkConflict (some lock) = CoverageConflict (lock .lock .id)
+-- 02, C-13: "CoverageConflict carries it beside the id"
+abbrev pub conflictWith : ActiveLock → ActiveLock → Answer
+conflictWith new lock = CoverageConflict (lock .lock .id) (spot (lock .lock .coverage) (new .lock .coverage))
+
+abbrev pub checkConflict : ActiveLock → Option ActiveLock → Answer
+checkConflict new none = Done
+checkConflict new (some lock) = conflictWith new lock
 
 unfoldable pub checkClear : List ActiveLock → ActiveLock → Answer
-checkClear active new = checkConflict (find (conflicts new) active)
+checkClear active new = checkConflict new (find (conflicts new) active)
 
 -- ---- 8: the revision can't rise
 abbrev pub lastRevision : ℕ

@@ -1,5 +1,6 @@
 // What the operations answer: an enum for each kind of answer, and beside it the state that is left.
 // SPDX-License-Identifier: Apache-2.0
+use coverage::Spot;
 use ids::LockId;
 use state::ActiveLock;
 use state::LockState;
@@ -16,7 +17,7 @@ pub enum Answer {
     ParentNotFound(LockId),
     ParentNotVehicle(LockId),
     ReplacementScopeConflict,
-    CoverageConflict(LockId),
+    CoverageConflict(LockId, Spot),
     RevisionOverflow,
     NotRootVehicle,
     BadChild(LockId),

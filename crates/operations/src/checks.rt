@@ -4,6 +4,7 @@
 use crate::answers;
 use crate::answers::Answer;
 use crate::trees;
+use coverage::Overlap;
 use ids::LockId;
 use state::ActiveLock;
 use state::DefunctLock;
@@ -14,12 +15,13 @@ ghost use Prim.Native.Nat.{_≤_};
 ghost use lib.Dec.{eqb};
 ghost use lib.ListN.{take};
 ghost use Rattle.lists.specs.Lists.{any};
+ghost use Rattle.lists.specs.Tests.{Yes};
 ghost use Rattle.ids.specs.Words.{ascendingIds};
 ghost use Rattle.state.specs.Locks.{hasId, hasIdD};
 ghost use Rattle.operations.specs.declared.answers.Answer.the-variants.{Done, NoRoom};
 ghost use Rattle.operations.specs.Answers.{refuseIf, firstRefusal};
 ghost use Rattle.operations.specs.Trees.{inTrees};
-ghost use Rattle.operations.specs.Checks.{checkList, checkId, conflicts, checkRevision, checkRoot, settledLock, checkActive, checkListed, checkChild, outside, checkHolder};
+ghost use Rattle.operations.specs.Checks.{checkList, checkId, conflicts, conflictWith, checkRevision, checkRoot, settledLock, checkActive, checkListed, checkChild, outside, checkHolder};
 ghost use Rattle.operations.specs.Code.{flagged, placeIn, checkParent, checkNesting, checkInsert, checkNamed, seenIn};
 
 // ---- 14
@@ -132,6 +134,19 @@ fn in_conflict(new: ActiveLock, a: ActiveLock) -> bool
         & !state::is_vehicle(scope)
 }
 
+// A lock that the new one conflicts with, and where the two meet: they overlap, so they are not apart.
+fn conflict_with(new: ActiveLock, a: ActiveLock) -> Answer
+    requires { ⌜ Yes (conflicts new a) ⌝ }
+    ensures { λ r. ⌜ r ≡ conflictWith new a ⌝ }
+{
+    let id = a.lock.id;
+    let met = a.lock.coverage.overlaps(new.lock.coverage);
+    match met {
+        Overlap::Apart => Answer::Done,
+        Overlap::Meets(at) => Answer::CoverageConflict(id, at),
+    }
+}
+
 // ---- one walk over the active locks, and what it sees of a new one
 // Whether its id is there and its scope is held; the places of its parent and of the first lock that it conflicts with, the
 // count where there is none.
@@ -203,8 +218,7 @@ pub(crate) fn check_seen(
         return Answer::Done;
     }
     let other = locks[at];
-    let id = other.lock.id;
-    Answer::CoverageConflict(id)
+    conflict_with(new, other)
 }
 
 pub(crate) fn check_insert(

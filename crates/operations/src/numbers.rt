@@ -20,7 +20,7 @@ pub fn of_answer(a: Answer) -> u64
         Answer::ParentNotFound(_) => 4,
         Answer::ParentNotVehicle(_) => 5,
         Answer::ReplacementScopeConflict => 6,
-        Answer::CoverageConflict(_) => 7,
+        Answer::CoverageConflict(_, _) => 7,
         Answer::RevisionOverflow => 8,
         Answer::NotRootVehicle => 11,
         Answer::BadChild(_) => 11,

@@ -40,7 +40,7 @@ foreignIf odd (ActiveLockNotFound i) = false
 foreignIf odd (ParentNotFound i) = false
 foreignIf odd (ParentNotVehicle i) = false
 foreignIf odd ReplacementScopeConflict = false
-foreignIf odd (CoverageConflict i) = false
+foreignIf odd (CoverageConflict i at) = false
 foreignIf odd RevisionOverflow = false
 foreignIf odd NotRootVehicle = false
 foreignIf odd (BadChild i) = false
@@ -79,7 +79,7 @@ module _ (odd : Bool) where
   unfolding checkClear
   clear-not l x = go (find (conflicts x) l)
     where
-      go : (o : Option ActiveLock) → No (foreignIf odd (checkConflict o))
+      go : (o : Option ActiveLock) → No (foreignIf odd (checkConflict x o))
       go none = refl
       go (some a) = refl
 

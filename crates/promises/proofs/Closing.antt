@@ -57,7 +57,7 @@ use Rattle.promises.proofs.Answered.{differ, foreign, insert-parts, veh
 use Rattle.promises.proofs.Every.{normal-neat}
 
 -- ---- an answer to a state, by its verdict
-by-verdict : {A : Type 0} (P : A → Type 0) (s : LockState) (u : ℕ → A) (a : A) → ((n : ℕ) → P (u n)) → (brokenRule s ≡ Sound → P a) → P (onSound s u a)
+pub by-verdict : {A : Type 0} (P : A → Type 0) (s : LockState) (u : ℕ → A) (a : A) → ((n : ℕ) → P (u n)) → (brokenRule s ≡ Sound → P a) → P (onSound s u a)
 unfolding onSound
 by-verdict {A} P s u a f g = go (brokenRule s) refl
   where

@@ -12,6 +12,7 @@
 --     Lowest    what a read finds has the lowest id of the locks that fit
 --     Dropping  the same of delete_defunct, which no feed asks for
 --     Agree     on a sound state all eight in one form: answer, removed locks, next state (demand 2)
+--     Spots     7 is told of the calls of before, with the lock in the way and the lowest ECU that both cover (C-13)
 --     Bench     the bench sheet's twelve starred rows
 -- The other files have what these are made of.
 pub mod Passed
@@ -34,3 +35,4 @@ pub mod Orders
 pub mod Closed
 pub mod Carried
 pub mod Bench
+pub mod Spots

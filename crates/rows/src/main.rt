@@ -2,6 +2,7 @@
 // number, the revision, how many active and defunct locks are left, and what the row speaks of (an id, a time, the removed).
 // SPDX-License-Identifier: Apache-2.0
 use coverage::LockCoverage;
+use coverage::Spot;
 use ids::LockId;
 use libc::STDOUT_FILENO;
 use operations::answers::Answer;
@@ -101,13 +102,21 @@ fn a() -> LockState {
 }
 
 // ---- a line for each kind of operation
+fn conflict(other: LockId, at: Spot) {
+    number(other.lo);
+    if let Spot::Ecu(e) = at {
+        text(b" at ECU");
+        number(e as u64);
+    }
+}
+
 fn inserted(name: &[u8], r: Inserted) {
     text(name);
     let told = r.told;
     left(numbers::of_answer(told), r.state);
     match told {
         Answer::DuplicateId(i) => number(i.lo),
-        Answer::CoverageConflict(i) => number(i.lo),
+        Answer::CoverageConflict(i, at) => conflict(i, at),
         _ => {}
     }
     text(b"\n");

@@ -4,9 +4,11 @@
 //! ```text
 //! differential [OPERATIONS] [SEED] [THREADS]   random states until so many operations were run,
 //!                                              a part of the tiny universe, every byte of a
-//!                                              rich image; fails on an answer seldom seen
-//! differential blocks [OPERATIONS] [SEED] [THREADS]   the random states alone
+//!                                              rich image, the directed conflicts; fails on an
+//!                                              answer seldom seen
+//! differential blocks [OPERATIONS] [SEED] [THREADS]   the random states alone, and a few conflicts
 //! differential block SEED                      one block of random states again
+//! differential conflicts [THREADS]             locks that overlap at every ECU, and at none
 //! differential tiny [STEP]                     every STEP-th state of the tiny universe
 //! differential replay PROGRAM [FEEDS] [SEED]   what the program prints, beside the judge
 //! differential spare PROGRAM [FEEDS] [SEED]    the same from a base image, and the new image
@@ -25,6 +27,7 @@ use std::{
 };
 
 use differential::{
+    conflicts,
     run::{Run, rich, tiny_universe},
     tally::{REACHABLE, Tally},
 };
@@ -41,13 +44,14 @@ fn main() -> ExitCode {
     };
     let numbers = match words.first().map(String::as_str) {
         Some("block" | "tiny") => [number(1, 1), Some(0), Some(0)],
+        Some("conflicts") => [Some(0), Some(0), number(1, 2)],
         Some("blocks") => [number(1, 1_000_000), number(2, 1), number(3, 2)],
         Some("replay" | "spare") if words.len() > 1 => [number(2, 300), number(3, 1), Some(0)],
         _ => [number(0, 1_000_000), number(1, 1), number(2, 2)],
     };
     let [Some(first), Some(seed), Some(threads)] = numbers else {
         eprintln!(
-            "differential [OPERATIONS] [SEED] [THREADS] | blocks [OPERATIONS] [SEED] [THREADS] | block SEED | tiny [STEP] | replay or spare PROGRAM [FEEDS] [SEED]"
+            "differential [OPERATIONS] [SEED] [THREADS] | blocks [OPERATIONS] [SEED] [THREADS] | block SEED | conflicts [THREADS] | tiny [STEP] | replay or spare PROGRAM [FEEDS] [SEED]"
         );
         return ExitCode::from(2);
     };
@@ -62,6 +66,10 @@ fn main() -> ExitCode {
             ExitCode::SUCCESS
         }
         Some("blocks") => blocks(first, seed, threads.max(1)),
+        Some("conflicts") => match conflicts_part(0..=255, threads.max(1)) {
+            Some(_) => ExitCode::SUCCESS,
+            None => ExitCode::FAILURE,
+        },
         Some("tiny") => tiny(first.max(1) as usize),
         Some(name @ ("replay" | "spare")) => {
             let compare = if name == "replay" { replay } else { spare };
@@ -237,6 +245,24 @@ fn bytes_part(threads: u64) -> Option<Tally> {
     Some(tally)
 }
 
+/// The directed cases of 7, counted in a line of their own.
+fn conflicts_part(ecus: impl IntoIterator<Item = u8>, threads: u64) -> Option<Tally> {
+    let meetings = conflicts::meetings(ecus);
+    let tally = spread(threads, meetings.len() as u64, |place| {
+        guarded("meeting", place, || {
+            conflicts::run(&meetings[place as usize])
+        })
+    })?;
+    println!(
+        "directed conflicts: {} cases, refused by 7 at an ECU {}, at none {}, done {}, no difference",
+        tally.operations,
+        tally.count("7"),
+        tally.count("7 no ECU"),
+        tally.count("0")
+    );
+    Some(tally)
+}
+
 /// Records as a chunk, each with the number after the one before it, and the first two again.
 fn in_turn(records: &[Vec<u8>]) -> Vec<u8> {
     let mut records = records.to_vec();
@@ -257,6 +283,10 @@ fn whole(operations: u64, seed: u64, threads: u64) -> ExitCode {
         sum.calls + sum.operations,
         start.elapsed().as_secs_f64()
     );
+    let Some(tally) = conflicts_part(0..=255, threads) else {
+        return ExitCode::FAILURE;
+    };
+    sum.add(&tally);
     // A tenth of the operations goes to the tiny universe.
     let (states, each) = tiny_universe(1);
     let step = (states.len() as u64 * each.len() as u64 * 10 / operations.max(1)).max(1) | 1;
@@ -280,12 +310,17 @@ fn whole(operations: u64, seed: u64, threads: u64) -> ExitCode {
     seldom(&sum)
 }
 
-/// The random states alone: what an emulator can do in a time that one waits for.
+/// The random states alone, and conflicts at a few ECUs: what an emulator can do in a time that
+/// one waits for.
 fn blocks(operations: u64, seed: u64, threads: u64) -> ExitCode {
     let start = Instant::now();
-    let Some(sum) = random_part(operations, seed, threads, start) else {
+    let Some(mut sum) = conflicts_part(conflicts::BORDERS, threads) else {
         return ExitCode::FAILURE;
     };
+    let Some(random) = random_part(operations, seed, threads, start) else {
+        return ExitCode::FAILURE;
+    };
+    sum.add(&random);
     ended(&sum, seed, threads, start);
     ExitCode::SUCCESS
 }

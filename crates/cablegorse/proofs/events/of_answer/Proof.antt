@@ -54,8 +54,8 @@ none-requires-3 c κs = search needs
 enum-known-a-5 : tie.Need-enum-known-a-5
 enum-known-a-5 c = search needs
 
-two-requires-5 : tie.Need-two-requires-5
-two-requires-5 c κs = search needs
+of-conflict-requires : tie.Need-of-conflict-requires
+of-conflict-requires c κs = search needs
 
 enum-told-4 : tie.Need-enum-told-4
 enum-told-4 c = search needs
@@ -144,7 +144,7 @@ returns-7 c = c .none3 .ensures ∙ ap (λ (x : Answer). toldOf (paper (c .befor
 
 returns-8 : tie.Need-returns-8
 unfolding paperOf
-returns-8 c = c .two5 .ensures ∙ ap (λ (x : Answer). toldOf (paper (c .before .before .before .before .args .n) (paperOf x .values))) (sym (c .before .before .a5 .given .1))
+returns-8 c = c .of-conflict .ensures ∙ ap (λ (x : Answer). toldOf (paper (c .before .before .before .before .args .n) (paperOf x .values))) (sym (c .before .before .a5 .given .1))
 
 returns-9 : tie.Need-returns-9
 unfolding paperOf
@@ -201,7 +201,7 @@ of-answer-spec =
     enum-told-3
     none-requires-3
     enum-known-a-5
-    two-requires-5
+    of-conflict-requires
     enum-told-4
     none-requires-4
     enum-told-5

@@ -1,0 +1,199 @@
+-- 02, C-13: what 7 tells. It is told of the calls it was told of before, with the id of the lock in the way, and where the
+-- two meet: at the lowest ECU that both cover, or at none as `shared` says.
+-- Assumes nothing.
+use mathlib.Core.Path.{_≡_, refl, sym, ap, _∙_}
+use mathlib.Core.Bool.{Bool, true, false, cond, false≢true}
+use mathlib.Core.List.{List, [], _∷_}
+use mathlib.Core.Option.{Option, none, some, Option·none-ne-some}
+use Prim.Native.Nat.{ℕ, _<_}
+use lib.Dec.{eqb}
+use borrow.Author.Tests.{eq-eqb}
+use Rattle.lists.specs.Tests.{_and_, _or_, non, Yes, No}
+use Rattle.lists.specs.Lists.{any, find, filter, Mem}
+use Rattle.lists.proofs.Tests.{against, and-l, cond-both}
+use Rattle.lists.proofs.Lists.{find→}
+use Rattle.ids.specs.Words.{ascendingIds}
+use Rattle.coverage.specs.declared.Spot.{Spot}
+use Rattle.coverage.specs.declared.Spot.the-variants.{NoEcu, Ecu}
+use Rattle.coverage.specs.declared.Overlap.the-variants.{Meets}
+use Rattle.coverage.specs.Coverage.{covers, overlap, shared, isMetAtNone, isEmpty}
+use Rattle.coverage.proofs.Shared.{shared-spot, shared-in, shared-lowest, shared-none}
+use Rattle.state.specs.declared.ActiveLock.{ActiveLock}
+use Rattle.state.specs.declared.LockState.{LockState}
+use Rattle.state.specs.Locks.{normal}
+use Rattle.state.specs.Model.{Model, modelOf, stateOf, Limits, full}
+use Rattle.rules.specs.declared.Verdict.the-variants.{Sound}
+use Rattle.rules.specs.Rules.{brokenRule, sound}
+use Rattle.rules.proofs.Sound.{sound-of}
+use Rattle.lookups.specs.Reads.{onSound}
+use Rattle.operations.specs.declared.answers.Answer.{Answer}
+use Rattle.operations.specs.declared.answers.Answer.the-variants.{Done, CoverageConflict, Invariant, UnsoundState}
+use Rattle.operations.specs.declared.answers.Inserted.{Inserted}
+use Rattle.operations.specs.declared.answers.Replaced.{Replaced}
+use Rattle.operations.specs.Answers.{paperOf, isDone, refuseIf, andThen, firstRefusal}
+use Rattle.operations.specs.Checks.{checkList, checkId, checkScope, checkParentActive, checkParentVehicle, checkParentOwner, checkParentCover, conflicts, checkConflict, checkClear, checkRevision, checkRoom, checkRoot, checkActive, checkFree, checkListed, checkOwner, checkCover, checkChild, checkHolder}
+use Rattle.operations.specs.Insert.{insertedIn, judgeInsert, inserted, closedInsert, settledInsert, insertActiveWith, insertActiveOn}
+use Rattle.operations.specs.Vehicle.{vehicleIn, judgeVehicle, insertVehicleWith, insertVehicleOn}
+use Rattle.operations.specs.Trees.{isListed}
+use Rattle.operations.specs.Replace.{orphan, cutOf, replacedIn, judgeReplace, replaced, closedReplace, settledReplace, commitReplacementWith, commitReplacementOn}
+use Rattle.promises.proofs.Core.{stands-of}
+use Rattle.promises.proofs.Removal.{cut-roots}
+use Rattle.promises.proofs.Closing.{by-verdict}
+
+-- ---- "Which calls are refused doesn't change": 7 refuses exactly where some lock conflicts
+refused-of : (x : ActiveLock) (c : Bool) (a : ActiveLock) (o : Option ActiveLock) (r : Bool) → isDone (checkConflict x o) ≡ non r → isDone (checkConflict x (cond c (some a) o)) ≡ non (c or r)
+unfolding isDone _or_ non
+refused-of x true a o r h = refl
+refused-of x false a o r h = h
+
+pub refused-as-before : (l : List ActiveLock) (x : ActiveLock) → isDone (checkClear l x) ≡ non (any (conflicts x) l)
+unfolding checkClear isDone non
+refused-as-before [] x = refl
+refused-as-before (a ∷ l) x = refused-of x (conflicts x a) a (find (conflicts x) l) (any (conflicts x) l) (refused-as-before l x)
+
+-- ---- what it tells
+-- r is 7 of the first lock in l that conflicts with x, and of where the two meet
+pub record Conflict (l : List ActiveLock) (x : ActiveLock) (r : Answer) : Type 0 where
+  pub lock : ActiveLock
+  pub spot : Spot
+  pub found : find (conflicts x) l ≡ some lock
+  pub told : r ≡ CoverageConflict (lock .lock .id) spot
+  pub meeting : shared (lock .lock .coverage) (x .lock .coverage) ≡ Meets spot
+
+module _ (l : List ActiveLock) (x : ActiveLock) (r : Answer) (c : Conflict l x r) where
+  -- the ECU is covered by both locks, and no lower one is
+  pub both-cover : (e : ℕ) → c .spot ≡ Ecu e → (e < 256) × Yes (covers (c .lock .lock .coverage) e) × Yes (covers (x .lock .coverage) e)
+  both-cover e q = shared-in (c .lock .lock .coverage) (x .lock .coverage) e (c .meeting ∙ ap Meets q)
+
+  pub none-lower : (e : ℕ) → c .spot ≡ Ecu e → (f : ℕ) → f < e → Yes (covers (c .lock .lock .coverage) f) → Yes (covers (x .lock .coverage) f) → ⊥
+  none-lower e q = shared-lowest (c .lock .lock .coverage) (x .lock .coverage) e (c .meeting ∙ ap Meets q)
+
+  -- without an ECU: two whole vehicles, or the whole vehicle and the empty set
+  pub none-where : c .spot ≡ NoEcu → let a = c .lock .lock .coverage in let b = x .lock .coverage in Yes (a .whole and b .whole or a .whole and isEmpty b or isEmpty a and b .whole)
+  none-where q = sym (shared-none (c .lock .lock .coverage) (x .lock .coverage)) ∙ ap isMetAtNone (c .meeting ∙ ap Meets q)
+
+-- ---- an answer that, if it is 7, tells a conflict
+abbrev isSeven : Answer → Bool
+isSeven r = eqb (paperOf r .number) 7
+
+Tells : List ActiveLock → ActiveLock → Answer → Type 0
+Tells l x r = Yes (isSeven r) → Conflict l x r
+
+module _ (l : List ActiveLock) (x : ActiveLock) where
+  others : (r : Answer) → No (isSeven r) → Tells l x r
+  unfolding Tells
+  others r f t = absurd (against f t)
+
+  if-tells : (c : Bool) (a b : Answer) → Tells l x a → Tells l x b → Tells l x (cond c a b)
+  if-tells c a b f g = cond-both (Tells l x) a b c (λ t. f) (λ t. g)
+
+  then-tells : (a b : Answer) → Tells l x a → Tells l x b → Tells l x (andThen a b)
+  unfolding andThen
+  then-tells a b f g = if-tells (isDone a) b a g f
+
+  -- a check that refuses by another number
+  plain : (c : Bool) (a : Answer) → No (isSeven a) → Tells l x (refuseIf c a Done)
+  unfolding refuseIf paperOf
+  plain c a f = if-tells c a Done (others a f) (others Done refl)
+
+  first-tells : {A : Type 0} (c : A → Answer) → ((a : A) → Tells l x (c a)) → (elements : List A) → Tells l x (firstRefusal c elements)
+  unfolding paperOf
+  first-tells c f [] = others Done refl
+  first-tells c f (a ∷ rest) = then-tells _ _ (f a) (first-tells c f rest)
+
+  clear-tells : Tells l x (checkClear l x)
+  unfolding checkClear conflicts Tells paperOf
+  clear-tells = go (find (conflicts x) l) refl
+    where
+      overlaps : (a : ActiveLock) → Yes (conflicts x a) → Yes (overlap (a .lock .coverage) (x .lock .coverage))
+      overlaps a t = and-l _ _ (and-l _ _ t)
+
+      go : (o : Option ActiveLock) → find (conflicts x) l ≡ o → Yes (isSeven (checkConflict x o)) → Conflict l x (checkConflict x o)
+      go none e t = absurd (false≢true t)
+      go (some a) e t = record { lock = a; spot = _; found = e; told = refl; meeting = shared-spot (a .lock .coverage) (x .lock .coverage) (overlaps a (find→ (conflicts x) l e .1)) }
+
+-- ---- each judgement
+module _ (k : Limits) (m : Model) (x : ActiveLock) where
+  insert-tells : Tells (m .active) x (judgeInsert k m x)
+  unfolding judgeInsert checkId checkScope checkParentActive checkParentVehicle checkParentOwner checkParentCover checkRevision checkRoom paperOf
+  insert-tells =
+      let l = m .active in
+      then-tells l x _ _ (plain l x _ _ refl)
+      (then-tells l x _ _ (plain l x _ _ refl)
+      (then-tells l x _ _ (plain l x _ _ refl)
+      (then-tells l x _ _ (plain l x _ _ refl)
+      (then-tells l x _ _ (plain l x _ _ refl)
+      (then-tells l x _ _ (plain l x _ _ refl)
+      (then-tells l x _ _ (clear-tells l x)
+      (then-tells l x _ _ (plain l x _ _ refl) (plain l x _ _ refl))))))))
+
+  vehicle-tells : (ws : List ℕ) → Tells [] x (judgeVehicle k m x ws)
+  unfolding judgeVehicle checkList checkRoot checkListed checkActive checkFree checkId checkScope checkRevision checkChild checkOwner checkCover checkRoom paperOf
+  vehicle-tells ws =
+      then-tells [] x _ _ (plain [] x _ _ refl)
+      (then-tells [] x _ _ (plain [] x _ _ refl)
+      (then-tells [] x _ _ (first-tells [] x (checkListed (m .active)) (λ i. then-tells [] x _ _ (plain [] x _ _ refl) (plain [] x _ _ refl)) (ascendingIds ws))
+      (then-tells [] x _ _ (plain [] x _ _ refl)
+      (then-tells [] x _ _ (plain [] x _ _ refl)
+      (then-tells [] x _ _ (plain [] x _ _ refl)
+      (then-tells [] x _ _ (first-tells [] x (checkChild x) (λ a. then-tells [] x _ _ (plain [] x _ _ refl) (plain [] x _ _ refl)) (filter (isListed ws) (m .active)))
+      (plain [] x _ _ refl)))))))
+
+  replace-tells : (ws : List ℕ) (by at : ℕ) → Tells (cutOf m ws .kept) x (judgeReplace k m ws x by at)
+  unfolding judgeReplace checkList checkActive checkId checkHolder checkScope checkParentActive checkParentVehicle checkParentOwner checkParentCover checkRevision checkCover checkRoom paperOf
+  replace-tells ws by at =
+      let l = cutOf m ws .kept in
+      then-tells l x _ _ (plain l x _ _ refl)
+      (then-tells l x _ _ (first-tells l x (checkActive (m .active)) (λ i. plain l x _ _ refl) (ascendingIds ws))
+      (then-tells l x _ _ (plain l x _ _ refl)
+      (then-tells l x _ _ (plain l x _ _ refl)
+      (then-tells l x _ _ (plain l x _ _ refl)
+      (then-tells l x _ _ (plain l x _ _ refl)
+      (then-tells l x _ _ (plain l x _ _ refl)
+      (then-tells l x _ _ (plain l x _ _ refl)
+      (then-tells l x _ _ (plain l x _ _ refl)
+      (then-tells l x _ _ (clear-tells l x)
+      (then-tells l x _ _ (plain l x _ _ refl)
+      (then-tells l x _ _ (first-tells l x (checkCover x) (λ a. plain l x _ _ refl) (filter (orphan x) (cutOf m ws .kept)))
+      (plain l x _ _ refl))))))))))))
+
+-- ---- each operation, on any state: where its number is 7
+-- tested, judged, and closed by a check: each of the other answers is another number's
+settled-tells : {A : Type 0} (told : A → Answer) (l : List ActiveLock) (x : ActiveLock) (s : LockState) (u : ℕ → A) (c d : Bool) (done unsound refused : A)
+    → ((n : ℕ) → No (isSeven (told (u n)))) → No (isSeven (told done)) → No (isSeven (told unsound)) → Tells l x (told refused) → Tells l x (told (onSound s u (cond c (cond d done unsound) refused)))
+settled-tells told l x s u c d done unsound refused f g h t =
+    by-verdict (λ r. Tells l x (told r)) s u (cond c (cond d done unsound) refused) (λ n. others l x (told (u n)) (f n))
+    (λ e. cond-both (λ r. Tells l x (told r)) (cond d done unsound) refused c (λ p. cond-both (λ r. Tells l x (told r)) done unsound d (λ q. others l x (told done) g) (λ q. others l x (told unsound) h)) (λ p. t))
+
+module _ (l : List ActiveLock) (x : ActiveLock) (s : LockState) (a : Answer) (n : Model) (t : Tells l x a) where
+  inserted-tells : Tells l x (onSound s (λ rule. inserted (UnsoundState rule) s) (settledInsert full a s n) .told)
+  unfolding settledInsert closedInsert paperOf
+  inserted-tells =
+      settled-tells (λ (r : Inserted). r .told) l x s (λ rule. inserted (UnsoundState rule) s) (isDone a) (sound full n) (inserted Done (stateOf n)) (inserted Invariant s) (inserted a s) (λ rule. refl) refl refl t
+
+  replaced-tells : (gone : List ActiveLock) → Tells l x (onSound s (λ rule. replaced (UnsoundState rule) [] s) (settledReplace full a s gone n) .told .answer)
+  unfolding settledReplace closedReplace paperOf
+  replaced-tells gone =
+      settled-tells (λ (r : Replaced). r .told .answer) l x s (λ rule. replaced (UnsoundState rule) [] s) (isDone a) (sound full n) (replaced Done gone (stateOf n)) (replaced Invariant [] s) (replaced a [] s) (λ rule. refl) refl refl t
+
+module _ (s : LockState) (y : ActiveLock) where
+  pub insert-conflict : paperOf (insertActiveOn s y .told) .number ≡ 7 → Conflict (modelOf s .active) (normal y) (insertActiveOn s y .told)
+  unfolding insertActiveOn insertActiveWith Tells
+  insert-conflict n = inserted-tells (modelOf s .active) (normal y) s (judgeInsert full (modelOf s) (normal y)) (insertedIn (modelOf s) (normal y)) (insert-tells full (modelOf s) (normal y)) (eq-eqb _ 7 n)
+
+  -- the lock in the way is one that stays
+  pub replace-conflict : (ws : List ℕ) (by at : ℕ)
+      → paperOf (commitReplacementOn s ws y by at .told .answer) .number ≡ 7 → Conflict (cutOf (modelOf s) ws .kept) (normal y) (commitReplacementOn s ws y by at .told .answer)
+  unfolding commitReplacementOn commitReplacementWith Tells
+  replace-conflict ws by at n =
+      replaced-tells (cutOf (modelOf s) ws .kept) (normal y) s (judgeReplace full (modelOf s) ws (normal y) by at) (replacedIn (modelOf s) ws (normal y) by at) (replace-tells full (modelOf s) (normal y) ws by at) (cutOf (modelOf s) ws .gone) (eq-eqb _ 7 n)
+
+  -- 7 is none of insert_vehicle's answers: it would be told of an empty list
+  pub vehicle-no-conflict : (ws : List ℕ) → paperOf (insertVehicleOn s y ws .told) .number ≡ 7 → ⊥
+  unfolding insertVehicleOn insertVehicleWith Tells
+  vehicle-no-conflict ws n =
+      Option·none-ne-some _ (inserted-tells [] (normal y) s (judgeVehicle full (modelOf s) (normal y) ws) (vehicleIn (modelOf s) (normal y) ws) (vehicle-tells full (modelOf s) (normal y) ws) (eq-eqb _ 7 n) .found)
+
+-- in a sound state the lock in a replacement's way is one of those at entry, as it was
+pub at-entry : (s : LockState) (ws : List ℕ) (x : ActiveLock) (r : Answer) → brokenRule s ≡ Sound → (c : Conflict (cutOf (modelOf s) ws .kept) x r) → Mem (c .lock) (modelOf s .active)
+at-entry s ws x r e c = cut-roots (modelOf s) ws (stands-of full (modelOf s) (sound-of s e) .core) .split .stays (c .lock) (find→ (conflicts x) (cutOf (modelOf s) ws .kept) (c .found) .0)
