@@ -8,13 +8,13 @@ use Rattle.lists.specs.Below.{anyBelow, lowestBelow}
 use Rattle.coverage.specs.declared.LockCoverage.{LockCoverage}
 use Rattle.coverage.specs.declared.Spot.the-variants.{NoEcu, Ecu}
 use Rattle.coverage.specs.declared.Overlap.the-variants.{Apart, Meets}
-use Rattle.coverage.specs.Coverage.{noCoverage, wholeVehicle, wordOf, inSet, covers, overlap, spot, shared, withEcus}
+use Rattle.coverage.specs.Coverage.{noCoverage, wholeVehicle, wordOf, inSet, covers, overlap, spotOf, shared, withEcus}
 
-abbrev pub set : List ℕ → LockCoverage
+abbrev set : List ℕ → LockCoverage
 set es = withEcus noCoverage es
 
 -- the whole vehicle with ECU 3 in its words: they are not looked at
-abbrev pub wholeWithBits : LockCoverage
+abbrev wholeWithBits : LockCoverage
 wholeWithBits = record { w0 = 8; w1 = 0; w2 = 0; w3 = 0; whole = true }
 
 pub examples :
@@ -29,5 +29,5 @@ pub examples :
     × (shared wholeVehicle wholeWithBits ≡ Meets NoEcu)
     × (shared wholeVehicle (set []) ≡ Meets NoEcu)
     × (shared (set []) wholeVehicle ≡ Meets NoEcu)
-unfolding wordOf inSet covers overlap spot shared anyBelow lowestBelow _and_ _or_
+unfolding wordOf inSet covers overlap spotOf shared anyBelow lowestBelow _and_ _or_
 examples = (refl, refl, refl, refl, refl, refl, refl, refl, refl, refl, refl)

@@ -85,11 +85,11 @@ within-trans a b c p q = go (a .whole) (b .whole) (c .whole) p q
         imp-trans (inSet a e) (inSet b e) (inSet c e) (all-at 256 (λ e. inSet a e imp inSet b e) p e l) (all-at 256 (λ e. inSet b e imp inSet c e) q e l))
 
 -- ---- what the code computes
-pub overlaps-code : (a b : LockCoverage) → Sized a
+pub meets-code : (a b : LockCoverage) → Sized a
     → ((a .whole || b .whole) || (((not (eqb (bitAnd (a .w0) (b .w0)) 0) || not (eqb (bitAnd (a .w1) (b .w1)) 0)) || not (eqb (bitAnd (a .w2) (b .w2)) 0)) || not (eqb (bitAnd (a .w3) (b .w3)) 0)))
     ≡ overlap a b
 unfolding overlap
-overlaps-code a b h = simp codes (ap (λ (x : Bool). a .whole or b .whole or x) (sym (any-words a b h)))
+meets-code a b h = simp codes (ap (λ (x : Bool). a .whole or b .whole or x) (sym (any-words a b h)))
 
 pub contains-code : (a b : LockCoverage) → Sized b
     → (a .whole || (not (b .whole) && (((eqb (bitAnd (a .w0) (b .w0)) (b .w0) && eqb (bitAnd (a .w1) (b .w1)) (b .w1)) && eqb (bitAnd (a .w2) (b .w2)) (b .w2)) && eqb (bitAnd (a .w3) (b .w3)) (b .w3))))

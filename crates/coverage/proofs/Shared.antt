@@ -15,7 +15,7 @@ use Rattle.lists.proofs.Tests.{and-comm, and-f, and-i, and-l, and-r, or-comm, o
 use Rattle.lists.proofs.Below.{any-of, any-at, IsLowest, lowest-is, lowest-one, lowest-same}
 use Rattle.bits.specs.Bits.{bitAt}
 use Rattle.bits.proofs.Bits.{and-bit, bit-of-zero, Lowest, trailing-lowest}
-use Rattle.coverage.specs.Coverage.{wordOf, inSet, covers, overlap, spotOf, lowestIn, spot, shared, isMet, isNoEcu, isMetAtNone, isEmpty}
+use Rattle.coverage.specs.Coverage.{wordOf, inSet, covers, overlap, asSpot, lowestIn, spotOf, shared, isMet, isNoEcu, isMetAtNone, isEmpty}
 use Rattle.coverage.specs.Code.{ecuOf, inBoth}
 use Rattle.coverage.specs.declared.LockCoverage.{LockCoverage}
 use Rattle.coverage.specs.declared.Spot.{Spot}
@@ -39,30 +39,30 @@ two-sets a b e p q = rw (p, q)
 both-sym : (a b : LockCoverage) → lowestBelow 256 (λ e. covers a e and covers b e) ≡ lowestBelow 256 (λ e. covers b e and covers a e)
 both-sym a b = lowest-same 256 (λ e. covers a e and covers b e) (λ e. covers b e and covers a e) (λ e l. and-comm (covers a e) (covers b e))
 
-pub spot-sym : (a b : LockCoverage) → spot a b ≡ spot b a
-unfolding spot
+pub spot-sym : (a b : LockCoverage) → spotOf a b ≡ spotOf b a
+unfolding spotOf
 spot-sym a b = rw (and-comm (a .whole) (b .whole), both-sym a b)
 
 -- ---- where they meet, case by case, as 02 has it
 
 -- "of two whole vehicles"
-pub spot-wholes : (a b : LockCoverage) → Yes (a .whole) → Yes (b .whole) → spot a b ≡ NoEcu
-unfolding spot _and_
+pub spot-wholes : (a b : LockCoverage) → Yes (a .whole) → Yes (b .whole) → spotOf a b ≡ NoEcu
+unfolding spotOf _and_
 spot-wholes a b p q = rw (p, q)
 
+-- else, where f says which ECUs both cover, the lowest of them
+spot-where : (a b : LockCoverage) (f : ℕ → Bool) → No (a .whole and b .whole) → ((e : ℕ) → (covers a e and covers b e) ≡ f e) → spotOf a b ≡ asSpot (lowestBelow 256 f)
+unfolding spotOf
+spot-where a b f n h = rw n (ap asSpot (lowest-same 256 (λ e. covers a e and covers b e) f (λ e l. h e)))
+
 -- "of the whole vehicle and a set, the set's lowest"
-pub spot-set : (a b : LockCoverage) → Yes (a .whole) → No (b .whole) → spot a b ≡ lowestIn b
-unfolding spot lowestIn
-spot-set a b p q =
-    ap (λ (x : Bool). cond x NoEcu (spotOf (lowestBelow 256 (λ e. covers a e and covers b e)))) (and-comm (a .whole) (b .whole) ∙ and-f (b .whole) (a .whole) q)
-    ∙ ap spotOf (lowest-same 256 (λ e. covers a e and covers b e) (inSet b) (λ e l. whole-set a b e p q))
+pub spot-set : (a b : LockCoverage) → Yes (a .whole) → No (b .whole) → spotOf a b ≡ lowestIn b
+unfolding lowestIn
+spot-set a b p q = spot-where a b (inSet b) (and-comm (a .whole) (b .whole) ∙ and-f (b .whole) (a .whole) q) (λ e. whole-set a b e p q)
 
 -- the lowest that is in both sets
-pub spot-sets : (a b : LockCoverage) → No (a .whole) → No (b .whole) → spot a b ≡ spotOf (lowestBelow 256 (λ e. inSet a e and inSet b e))
-unfolding spot
-spot-sets a b p q =
-    ap (λ (x : Bool). cond x NoEcu (spotOf (lowestBelow 256 (λ e. covers a e and covers b e)))) (and-f (a .whole) (b .whole) p)
-    ∙ ap spotOf (lowest-same 256 (λ e. covers a e and covers b e) (λ e. inSet a e and inSet b e) (λ e l. two-sets a b e p q))
+spot-sets : (a b : LockCoverage) → No (a .whole) → No (b .whole) → spotOf a b ≡ asSpot (lowestBelow 256 (λ e. inSet a e and inSet b e))
+spot-sets a b p q = spot-where a b (λ e. inSet a e and inSet b e) (and-f (a .whole) (b .whole) p) (λ e. two-sets a b e p q)
 
 -- ---- laws on the answer
 
@@ -71,7 +71,7 @@ pub shared-met : (a b : LockCoverage) → isMet (shared a b) ≡ overlap a b
 unfolding shared
 shared-met a b = go (overlap a b)
   where
-    go : (o : Bool) → isMet (cond o (Meets (spot a b)) Apart) ≡ o
+    go : (o : Bool) → isMet (cond o (Meets (spotOf a b)) Apart) ≡ o
     go true = refl
     go false = refl
 
@@ -79,8 +79,8 @@ pub shared-sym : (a b : LockCoverage) → shared a b ≡ shared b a
 unfolding shared
 shared-sym a b = rw (overlap-sym a b, spot-sym a b)
 
--- what overlaps meets where `spot` says
-pub shared-spot : (a b : LockCoverage) → Yes (overlap a b) → shared a b ≡ Meets (spot a b)
+-- what overlaps meets where `spotOf` says
+pub shared-spot : (a b : LockCoverage) → Yes (overlap a b) → shared a b ≡ Meets (spotOf a b)
 unfolding shared
 shared-spot a b t = rw t
 
@@ -88,37 +88,37 @@ pub shared-apart : (a b : LockCoverage) → No (overlap a b) → shared a b ≡ 
 unfolding shared
 shared-apart a b t = rw t
 
--- and back: an answer's spot is `spot`, and the two overlap
+-- and back: an answer's spot is that one, and the two overlap
 spotIn : Overlap → Spot
 spotIn Apart = NoEcu
 spotIn (Meets at) = at
 
-pub spot-shared : (a b : LockCoverage) (at : Spot) → shared a b ≡ Meets at → Yes (overlap a b) × (spot a b ≡ at)
+pub spot-shared : (a b : LockCoverage) (at : Spot) → shared a b ≡ Meets at → Yes (overlap a b) × (spotOf a b ≡ at)
 unfolding spotIn
 spot-shared a b at e =
     let t : Yes (overlap a b) = sym (shared-met a b) ∙ ap isMet e in
     (t, ap spotIn (sym (shared-spot a b t) ∙ e))
 
 -- at an ECU: it is the lowest that both cover
-ecuIn : Spot → Option ℕ
-ecuIn NoEcu = none
-ecuIn (Ecu e) = some e
+spotEcu : Spot → Option ℕ
+spotEcu NoEcu = none
+spotEcu (Ecu e) = some e
 
-ecu-in : (o : Option ℕ) → ecuIn (spotOf o) ≡ o
-unfolding ecuIn
-ecu-in none = refl
-ecu-in (some e) = refl
+spot-ecu : (o : Option ℕ) → spotEcu (asSpot o) ≡ o
+unfolding spotEcu
+spot-ecu none = refl
+spot-ecu (some e) = refl
 
-spot-lowest : (a b : LockCoverage) (e : ℕ) → spot a b ≡ Ecu e → IsLowest 256 (λ f. covers a f and covers b f) (some e)
-unfolding spot ecuIn
+spot-lowest : (a b : LockCoverage) (e : ℕ) → spotOf a b ≡ Ecu e → IsLowest 256 (λ f. covers a f and covers b f) (some e)
+unfolding spotOf spotEcu
 spot-lowest a b e q = go (a .whole and b .whole) q
   where
     both : ℕ → Bool
     both f = covers a f and covers b f
 
-    go : (w : Bool) → cond w NoEcu (spotOf (lowestBelow 256 both)) ≡ Ecu e → IsLowest 256 both (some e)
+    go : (w : Bool) → cond w NoEcu (asSpot (lowestBelow 256 both)) ≡ Ecu e → IsLowest 256 both (some e)
     go true q = absurd (true≢false (ap isNoEcu q))
-    go false q = subst (IsLowest 256 both) (sym (ecu-in (lowestBelow 256 both)) ∙ ap ecuIn q) (lowest-is 256 both)
+    go false q = subst (IsLowest 256 both) (sym (spot-ecu (lowestBelow 256 both)) ∙ ap spotEcu q) (lowest-is 256 both)
 
 pub shared-in : (a b : LockCoverage) (e : ℕ) → shared a b ≡ Meets (Ecu e) → (e < 256) × Yes (covers a e) × Yes (covers b e)
 shared-in a b e q =
@@ -129,10 +129,10 @@ pub shared-lowest : (a b : LockCoverage) (e : ℕ) → shared a b ≡ Meets (Ecu
 shared-lowest a b e q f h s t = against (spot-lowest a b e (spot-shared a b (Ecu e) q .1) .2 f h) (and-i (covers a f) (covers b f) s t)
 
 -- "of two whole vehicles, or the whole vehicle and the empty set, an overlap with no ECU", and of no others
-none-in : (f : ℕ → Bool) → isNoEcu (spotOf (lowestBelow 256 f)) ≡ non (anyBelow 256 f)
+none-in : (f : ℕ → Bool) → isNoEcu (asSpot (lowestBelow 256 f)) ≡ non (anyBelow 256 f)
 none-in f = go (lowestBelow 256 f) (lowest-is 256 f)
   where
-    go : (o : Option ℕ) → IsLowest 256 f o → isNoEcu (spotOf o) ≡ non (anyBelow 256 f)
+    go : (o : Option ℕ) → IsLowest 256 f o → isNoEcu (asSpot o) ≡ non (anyBelow 256 f)
     go none r = sym (non-f (anyBelow 256 f) (→no (anyBelow 256 f) (λ t. let q = any-at 256 f t in against (r (q .0) (q .1)) (q .2))))
     go (some e) r = sym (non-t (anyBelow 256 f) (any-of 256 f e (r .0) (r .1)))
 
@@ -159,7 +159,7 @@ none-sets a b p q =
     ∙ go (anyBelow 256 (λ e. inSet a e and inSet b e)) (none-in (λ e. inSet a e and inSet b e))
   where
     at : Spot
-    at = spotOf (lowestBelow 256 (λ e. inSet a e and inSet b e))
+    at = asSpot (lowestBelow 256 (λ e. inSet a e and inSet b e))
 
     go : (o : Bool) → isNoEcu at ≡ non o → isMetAtNone (cond o (Meets at) Apart) ≡ false
     go true e = e
@@ -187,7 +187,7 @@ none-yet c j h = absurd (omega arith)
 -- the words before the i-th are empty, and this one isn't: its lowest bit is the set's lowest ECU
 pub lowest-at : (c : LockCoverage) → Sized c → (i : ℕ) → i < 4 → ((j : ℕ) → j < i → wordOf c j ≡ 0) → (wordOf c i ≡ 0 → ⊥) → ecuOf (wordOf c i) (i * 64) ≡ lowestIn c
 unfolding lowestIn inSet Sized
-lowest-at c s i l z n = sym (ap spotOf (lowest-one 256 (inSet c) (some (i * 64 + t)) (omega (arith, r .0), here, below)))
+lowest-at c s i l z n = sym (ap asSpot (lowest-one 256 (inSet c) (some (i * 64 + t)) (omega (arith, r .0), here, below)))
   where
     t : ℕ
     t = trailingZeros 64 (wordOf c i)
@@ -210,7 +210,7 @@ word-more c i z e j h = elim (ℕ-discrete j i) [ yes q ↦ subst (λ (k : ℕ).
 
 pub lowest-nowhere : (c : LockCoverage) → ((j : ℕ) → j < 4 → wordOf c j ≡ 0) → NoEcu ≡ lowestIn c
 unfolding lowestIn inSet
-lowest-nowhere c z = sym (ap spotOf (lowest-one 256 (inSet c) none (λ k h. ap (λ (w : ℕ). bitAt w (k % 64)) (z (k / 64) (omega arith)) ∙ bit-of-zero (k % 64))))
+lowest-nowhere c z = sym (ap asSpot (lowest-one 256 (inSet c) none (λ k h. ap (λ (w : ℕ). bitAt w (k % 64)) (z (k / 64) (omega arith)) ∙ bit-of-zero (k % 64))))
 
 -- the `&` of two sets, word by word, has what is in both
 in-both : (a b : LockCoverage) (e : ℕ) → inSet (inBoth a b) e ≡ (inSet a e and inSet b e)
@@ -223,6 +223,6 @@ in-both a b e = go (e / 64)
     go (suc (suc zero)) = and-bit (a .w2) (b .w2) (e % 64)
     go (suc (suc (suc i))) = and-bit (a .w3) (b .w3) (e % 64)
 
-pub spot-both : (a b : LockCoverage) → No (a .whole) → No (b .whole) → lowestIn (inBoth a b) ≡ spot a b
+pub spot-both : (a b : LockCoverage) → No (a .whole) → No (b .whole) → lowestIn (inBoth a b) ≡ spotOf a b
 unfolding lowestIn
-spot-both a b p q = ap spotOf (lowest-same 256 (inSet (inBoth a b)) (λ e. inSet a e and inSet b e) (λ e l. in-both a b e)) ∙ sym (spot-sets a b p q)
+spot-both a b p q = ap asSpot (lowest-same 256 (inSet (inBoth a b)) (λ e. inSet a e and inSet b e) (λ e l. in-both a b e)) ∙ sym (spot-sets a b p q)

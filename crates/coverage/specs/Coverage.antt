@@ -41,23 +41,28 @@ covers c e = c .whole or inSet c e
 unfoldable pub overlap : LockCoverage → LockCoverage → Bool
 overlap a b = a .whole or b .whole or anyBelow 256 (λ e. inSet a e and inSet b e)
 
+-- b lies within a: the whole vehicle "contains everything. A set never contains the whole vehicle"; a set contains a set
+-- whose ECUs are all in it
+unfoldable pub within : LockCoverage → LockCoverage → Bool
+within b a = a .whole or (non (b .whole) and allBelow 256 (λ e. inSet b e imp inSet a e))
+
 -- ---- document 02, C-13
 -- an ECU, if there is one
-abbrev pub spotOf : Option ℕ → Spot
-spotOf none = NoEcu
-spotOf (some e) = Ecu e
+abbrev pub asSpot : Option ℕ → Spot
+asSpot none = NoEcu
+asSpot (some e) = Ecu e
 
 -- "the set's lowest"
 unfoldable pub lowestIn : LockCoverage → Spot
-lowestIn c = spotOf (lowestBelow 256 (inSet c))
+lowestIn c = asSpot (lowestBelow 256 (inSet c))
 
 -- "the lowest shared ECU number": the lowest that both cover; "of two whole vehicles" none
-unfoldable pub spot : LockCoverage → LockCoverage → Spot
-spot a b = cond (a .whole and b .whole) NoEcu (spotOf (lowestBelow 256 (λ e. covers a e and covers b e)))
+unfoldable pub spotOf : LockCoverage → LockCoverage → Spot
+spotOf a b = cond (a .whole and b .whole) NoEcu (asSpot (lowestBelow 256 (λ e. covers a e and covers b e)))
 
 -- "The test for overlap, which answered yes or no": apart where it was no, else where the two meet
 unfoldable pub shared : LockCoverage → LockCoverage → Overlap
-shared a b = cond (overlap a b) (Meets (spot a b)) Apart
+shared a b = cond (overlap a b) (Meets (spotOf a b)) Apart
 
 -- words of the laws on it (proofs/Shared.antt): its yes or no; "an overlap with no ECU"; "the empty set"
 abbrev pub isMet : Overlap → Bool
@@ -74,11 +79,6 @@ isMetAtNone (Meets at) = isNoEcu at
 
 unfoldable pub isEmpty : LockCoverage → Bool
 isEmpty c = non (c .whole) and non (anyBelow 256 (inSet c))
-
--- b lies within a: the whole vehicle "contains everything. A set never contains the whole vehicle"; a set contains a set
--- whose ECUs are all in it
-unfoldable pub within : LockCoverage → LockCoverage → Bool
-within b a = a .whole or (non (b .whole) and allBelow 256 (λ e. inSet b e imp inSet a e))
 
 -- ---- a set from a list of ECU numbers
 -- ECU e joins the set: its bit is set in its word

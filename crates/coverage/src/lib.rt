@@ -2,7 +2,7 @@
 // SPDX-License-Identifier: Apache-2.0
 ghost use mathlib.Core.Path.{_≡_};
 ghost use Prim.Native.Nat.{_≤_};
-ghost use Rattle.coverage.specs.Coverage.{noCoverage, wholeVehicle, wordOf, covers, overlap, lowestIn, spot, shared, within, bitIn, withEcu, withEcus};
+ghost use Rattle.coverage.specs.Coverage.{noCoverage, wholeVehicle, wordOf, covers, overlap, lowestIn, spotOf, shared, within, bitIn, withEcu, withEcus};
 ghost use Rattle.coverage.specs.Code.{ecuOf, inBoth};
 
 // No array in here: an enum may then carry a lock.
@@ -104,7 +104,7 @@ fn in_both(a: LockCoverage, b: LockCoverage) -> LockCoverage
 
 // The bits of the whole vehicle's words are not looked at: it covers every ECU.
 fn spot_of(a: LockCoverage, b: LockCoverage) -> Spot
-    ensures { λ r. ⌜ r ≡ spot a b ⌝ }
+    ensures { λ r. ⌜ r ≡ spotOf a b ⌝ }
 {
     if a.whole & b.whole {
         return Spot::NoEcu;

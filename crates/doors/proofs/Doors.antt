@@ -30,6 +30,7 @@ use Rattle.records.specs.Numbers.{stored}
 use Rattle.records.specs.Wire.{id}
 use Rattle.image.specs.declared.Spare.{Spare}
 use Rattle.image.specs.declared.Imaged.{Imaged}
+use Rattle.image.specs.declared.Reading.{Reading}
 use Rattle.image.specs.declared.Reading.the-variants as reading
 use Rattle.image.specs.declared.Writing.the-variants as W
 use Rattle.image.specs.Image.{readOn, done, writeOn}
@@ -57,20 +58,18 @@ use Rattle.cablegorse.specs.Questions.{scopedOf}
 use Rattle.cablegorse.specs.Changes.{Changed, imageBytes, sizeOf, anyShort, stepPut, applyOf, Left, isGone, spareAfter, dropPut, onScopedLeft, deleteOf}
 use Rattle.cablegorse.specs.Chunks.{Chunked, runPut, followOf}
 use Rattle.cablegorse.proofs.Images.{done-told}
+use Rattle.doors.specs.Reads.{reads}
 use Rattle.doors.specs.Chains.{Chain, ended, applied, passed, calls}
 use Rattle.doors.proofs.Typed.{accepted-typed, direct-typed, step-typed}
 
-abbrev reads : List ℕ → Spare → Type 0
-reads s sp = readOn s ≡ record { told = reading.Done; spare = sp }
-
 -- ---- an image that is read
 -- what holds of both ends holds of the call
-image-comes : {A : Type 0} (P : A → Type 0) (s : List ℕ) (refused : Told → A) (go : Spare → A) → ((t : Told) → P (refused t)) → ((sp : Spare) → reads s sp → P (go sp)) → P (onImage s refused go)
+pub image-comes : {A : Type 0} (P : A → Type 0) (s : List ℕ) (refused : Told → A) (go : Spare → A) → ((r : Reading) → P (refused (readingTold r))) → ((sp : Spare) → reads s sp → P (go sp)) → P (onImage s refused go)
 unfolding onImage
 image-comes P s refused go f g =
     cond-both P _ _ (eqb (readingTold (readOn s .told) .number) 0)
     (λ t. g (readOn s .spare) (let q = done-told (readOn s .told) (eqb-true _ _ t) in λ i. record { told = q i; spare = readOn s .spare }))
-    (λ t. f (readingTold (readOn s .told)))
+    (λ t. f (readOn s .told))
 
 -- ---- a spare within the types, written where it has room
 module _ (sp : Spare) (r : InTypes sp) (e : brokenRule (sp .state) ≡ Sound) (n : List ℕ) (room : No (ltb (length n) (sizeOf sp))) where

@@ -1,1 +1,3 @@
+pub mod Reads
 pub mod Chains
+pub mod Conflicts

@@ -113,10 +113,13 @@ unfolding conflicts
 conflicts-is x a o v e f = rw (e, f) (simp codes)
 
 -- locks in conflict overlap, so their answer is where they meet
+pub conflicts-overlap : (x a : ActiveLock) → Yes (conflicts x a) → Yes (overlap (a .lock .coverage) (x .lock .coverage))
+unfolding conflicts
+conflicts-overlap x a t = and-l _ _ (and-l _ _ t)
+
 module _ (x a : ActiveLock) (o : Overlap) (e : o ≡ shared (a .lock .coverage) (x .lock .coverage)) where
   pub conflict-meets : Yes (conflicts x a) → o ≡ Apart → ⊥
-  unfolding conflicts
-  conflict-meets t q = false≢true (ap isMet (sym q ∙ e) ∙ shared-met (a .lock .coverage) (x .lock .coverage) ∙ and-l _ _ (and-l _ _ t))
+  conflict-meets t q = false≢true (ap isMet (sym q ∙ e) ∙ shared-met (a .lock .coverage) (x .lock .coverage) ∙ conflicts-overlap x a t)
 
   pub conflict-at : (at : Spot) → o ≡ Meets at → CoverageConflict (a .lock .id) at ≡ conflictWith x a
   conflict-at at q = ap (CoverageConflict (a .lock .id)) (sym (spot-shared (a .lock .coverage) (x .lock .coverage) at (sym e ∙ q) .1))

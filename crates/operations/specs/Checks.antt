@@ -12,7 +12,7 @@ use Rattle.lists.specs.Tests.{_and_, _or_, non}
 use Rattle.lists.specs.Lists.{any, find}
 use Rattle.ids.specs.declared.LockId.{LockId}
 use Rattle.ids.specs.Words.{oddWords}
-use Rattle.coverage.specs.Coverage.{overlap, spot, within}
+use Rattle.coverage.specs.Coverage.{overlap, spotOf, within}
 use Rattle.state.specs.declared.ActiveLock.{ActiveLock}
 use Rattle.state.specs.declared.DefunctLock.{DefunctLock}
 use Rattle.state.specs.Locks.{isVehicle, hasId, hasIdD}
@@ -71,7 +71,7 @@ conflicts new lock = overlap (lock .lock .coverage) (new .lock .coverage) and no
 
 -- 02, C-13: "CoverageConflict carries it beside the id"
 abbrev pub conflictWith : ActiveLock → ActiveLock → Answer
-conflictWith new lock = CoverageConflict (lock .lock .id) (spot (lock .lock .coverage) (new .lock .coverage))
+conflictWith new lock = CoverageConflict (lock .lock .id) (spotOf (lock .lock .coverage) (new .lock .coverage))
 
 abbrev pub checkConflict : ActiveLock → Option ActiveLock → Answer
 checkConflict new none = Done

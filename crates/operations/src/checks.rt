@@ -134,7 +134,7 @@ fn in_conflict(new: ActiveLock, a: ActiveLock) -> bool
         & !state::is_vehicle(scope)
 }
 
-// A lock that the new one conflicts with, and where the two meet: they overlap, so they are not apart.
+// A lock that the new one conflicts with, and where the two meet. Locks in conflict overlap, so `Apart` can't come.
 fn conflict_with(new: ActiveLock, a: ActiveLock) -> Answer
     requires { ⌜ Yes (conflicts new a) ⌝ }
     ensures { λ r. ⌜ r ≡ conflictWith new a ⌝ }

@@ -8,7 +8,7 @@ use Rattle.lists.specs.Lists.{all}
 use Rattle.lists.specs.Below.{allBelow, anyBelow, lowestBelow}
 use Rattle.ids.specs.Order.{key, sameId, beforeId}
 use Rattle.ids.specs.Words.{oddWords, listedIn}
-use Rattle.coverage.specs.Coverage.{wordOf, inSet, covers, overlap, spot, within}
+use Rattle.coverage.specs.Coverage.{wordOf, inSet, covers, overlap, spotOf, within}
 use Rattle.state.specs.Locks.{isVehicle, isGroup, ecuIn, scopeCode, sameScope, hasId, hasIdD, blankActive, blankDefunct, normal}
 use Rattle.state.specs.Model.{fits}
 use Rattle.rules.specs.Rules.{zeroId, zeroSet, zeroLock, isBlankA, isBlankD, blanks, inOrder, neatL, neatA, neatD, neat, rule0, rule1, rule2, rule3, rule4, rule5, rule6, rule7, clash, rule8, meetsNone, rule9, brokenRule, sound}
@@ -27,5 +27,5 @@ use Rattle.promises.specs.Steps.{stepOn}
 use Rattle.promises.specs.Bench.{answerOn, removedOn, rows, ends, goes, rowHolds}
 
 pub every-row : (length rows ≡ 12) × (all rowHolds rows ≡ true)
-unfolding _and_ _or_ _imp_ non allBelow anyBelow lowestBelow key sameId beforeId oddWords listedIn wordOf inSet covers overlap spot within isVehicle isGroup ecuIn scopeCode sameScope hasId hasIdD blankActive blankDefunct normal fits zeroId zeroSet zeroLock isBlankA isBlankD blanks inOrder neatL neatA neatD neat rule0 rule1 rule2 rule3 rule4 rule5 rule6 rule7 clash rule8 meetsNone rule9 brokenRule sound onSound onScope narrow coversDefunct paperOf renewalPaper deletionPaper expirationPaper acknowledgementPaper expiryPaper isDone refuseIf andThen redirect other removeD superseded supersede toDefunct childOf inTree treeParts rootParts rootsParts checkList checkId checkScope checkParentActive checkParentVehicle checkParentOwner checkParentCover conflicts checkClear atLast checkRevision checkRoom checkRoot missing checkActive settledLock checkFree checkListed checkOwner checkCover checkChild checkHolder insertedIn judgeInsert closedInsert settledInsert insertActiveWith insertActiveOn nest adopt vehicleIn judgeVehicle insertVehicleWith insertVehicleOn extended extendAt renewedIn judgeRenew renewOn withoutTree deleteFound deleteOn expireFound beginExpirationOn orphan enteredOf replacedIn judgeReplace closedReplace settledReplace commitReplacementWith commitReplacementOn shedIn toldAcknowledge acknowledgedTo acknowledgeOn lapsed shedTo expireDefunctOn stepOn answerOn removedOn rows ends goes rowHolds
+unfolding _and_ _or_ _imp_ non allBelow anyBelow lowestBelow key sameId beforeId oddWords listedIn wordOf inSet covers overlap spotOf within isVehicle isGroup ecuIn scopeCode sameScope hasId hasIdD blankActive blankDefunct normal fits zeroId zeroSet zeroLock isBlankA isBlankD blanks inOrder neatL neatA neatD neat rule0 rule1 rule2 rule3 rule4 rule5 rule6 rule7 clash rule8 meetsNone rule9 brokenRule sound onSound onScope narrow coversDefunct paperOf renewalPaper deletionPaper expirationPaper acknowledgementPaper expiryPaper isDone refuseIf andThen redirect other removeD superseded supersede toDefunct childOf inTree treeParts rootParts rootsParts checkList checkId checkScope checkParentActive checkParentVehicle checkParentOwner checkParentCover conflicts checkClear atLast checkRevision checkRoom checkRoot missing checkActive settledLock checkFree checkListed checkOwner checkCover checkChild checkHolder insertedIn judgeInsert closedInsert settledInsert insertActiveWith insertActiveOn nest adopt vehicleIn judgeVehicle insertVehicleWith insertVehicleOn extended extendAt renewedIn judgeRenew renewOn withoutTree deleteFound deleteOn expireFound beginExpirationOn orphan enteredOf replacedIn judgeReplace closedReplace settledReplace commitReplacementWith commitReplacementOn shedIn toldAcknowledge acknowledgedTo acknowledgeOn lapsed shedTo expireDefunctOn stepOn answerOn removedOn rows ends goes rowHolds
 every-row = (refl, refl)

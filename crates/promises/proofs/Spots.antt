@@ -1,22 +1,23 @@
 -- 02, C-13: what 7 tells. It is told of the calls it was told of before, with the id of the lock in the way, and where the
--- two meet: at the lowest ECU that both cover, or at none as `shared` says.
+-- two meet: at the lowest ECU that both cover, or at none as `shared` says. Of each operation, and of the one call.
 -- Assumes nothing.
 use mathlib.Core.Path.{_≡_, refl, sym, ap, _∙_}
 use mathlib.Core.Bool.{Bool, true, false, cond, false≢true}
 use mathlib.Core.List.{List, [], _∷_}
 use mathlib.Core.Option.{Option, none, some, Option·none-ne-some}
 use Prim.Native.Nat.{ℕ, _<_}
+use native.Mathlib.Omega.{arith}
 use lib.Dec.{eqb}
 use borrow.Author.Tests.{eq-eqb}
-use Rattle.lists.specs.Tests.{_and_, _or_, non, Yes, No}
-use Rattle.lists.specs.Lists.{any, find, filter, Mem}
-use Rattle.lists.proofs.Tests.{against, and-l, cond-both}
+use Rattle.lists.specs.Tests.{_and_, _or_, Yes, No}
+use Rattle.lists.specs.Lists.{find, filter, Mem}
+use Rattle.lists.specs.Papers.{Paper}
+use Rattle.lists.proofs.Tests.{against, cond-both}
 use Rattle.lists.proofs.Lists.{find→}
 use Rattle.ids.specs.Words.{ascendingIds}
-use Rattle.coverage.specs.declared.Spot.{Spot}
 use Rattle.coverage.specs.declared.Spot.the-variants.{NoEcu, Ecu}
 use Rattle.coverage.specs.declared.Overlap.the-variants.{Meets}
-use Rattle.coverage.specs.Coverage.{covers, overlap, shared, isMetAtNone, isEmpty}
+use Rattle.coverage.specs.Coverage.{covers, spotOf, isMetAtNone, isEmpty}
 use Rattle.coverage.proofs.Shared.{shared-spot, shared-in, shared-lowest, shared-none}
 use Rattle.state.specs.declared.ActiveLock.{ActiveLock}
 use Rattle.state.specs.declared.LockState.{LockState}
@@ -27,40 +28,48 @@ use Rattle.rules.specs.Rules.{brokenRule, sound}
 use Rattle.rules.proofs.Sound.{sound-of}
 use Rattle.lookups.specs.Reads.{onSound}
 use Rattle.operations.specs.declared.answers.Answer.{Answer}
-use Rattle.operations.specs.declared.answers.Answer.the-variants.{Done, CoverageConflict, Invariant, UnsoundState}
+use Rattle.operations.specs.declared.answers.Answer.the-variants.{Done, Invariant, UnsoundState}
+use Rattle.operations.specs.declared.answers.Renewal.{Renewal}
+use Rattle.operations.specs.declared.answers.Renewal.the-variants as renewal
+use Rattle.operations.specs.declared.answers.Deletion.{Deletion}
+use Rattle.operations.specs.declared.answers.Deletion.the-variants as deletion
+use Rattle.operations.specs.declared.answers.Expiration.{Expiration}
+use Rattle.operations.specs.declared.answers.Expiration.the-variants as expiration
+use Rattle.operations.specs.declared.answers.Acknowledgement.{Acknowledgement}
+use Rattle.operations.specs.declared.answers.Acknowledgement.the-variants as acknowledgement
+use Rattle.operations.specs.declared.answers.DefunctExpiry.{DefunctExpiry}
+use Rattle.operations.specs.declared.answers.DefunctExpiry.the-variants as expiry
 use Rattle.operations.specs.declared.answers.Inserted.{Inserted}
 use Rattle.operations.specs.declared.answers.Replaced.{Replaced}
-use Rattle.operations.specs.Answers.{paperOf, isDone, refuseIf, andThen, firstRefusal}
+use Rattle.operations.specs.Answers.{paperOf, renewalPaper, deletionPaper, expirationPaper, acknowledgementPaper, expiryPaper, isDone, refuseIf, andThen, firstRefusal}
 use Rattle.operations.specs.Checks.{checkList, checkId, checkScope, checkParentActive, checkParentVehicle, checkParentOwner, checkParentCover, conflicts, checkConflict, checkClear, checkRevision, checkRoom, checkRoot, checkActive, checkFree, checkListed, checkOwner, checkCover, checkChild, checkHolder}
 use Rattle.operations.specs.Insert.{insertedIn, judgeInsert, inserted, closedInsert, settledInsert, insertActiveWith, insertActiveOn}
 use Rattle.operations.specs.Vehicle.{vehicleIn, judgeVehicle, insertVehicleWith, insertVehicleOn}
 use Rattle.operations.specs.Trees.{isListed}
 use Rattle.operations.specs.Replace.{orphan, cutOf, replacedIn, judgeReplace, replaced, closedReplace, settledReplace, commitReplacementWith, commitReplacementOn}
+use Rattle.operations.proofs.Chains.{conflicts-overlap}
+use Rattle.operations.specs.Renew.{renewOn}
+use Rattle.operations.specs.Delete.{deleteOn, beginExpirationOn}
+use Rattle.operations.specs.Acknowledge.{acknowledgeOn, expireDefunctOn}
+use Rattle.records.specs.declared.requests.Request.{Request}
+use Rattle.records.specs.declared.requests.Request.the-variants.{Insert, InsertVehicle, Renew, Delete, BeginExpiration, Replace, Acknowledge, ExpireDefunct}
+use Rattle.calls.specs.Calls.{performOn, outcomePaper}
+use Rattle.promises.specs.Spots.{toldBefore, withoutSpot, Conflict, InConflict, inserting, replacing}
 use Rattle.promises.proofs.Core.{stands-of}
 use Rattle.promises.proofs.Removal.{cut-roots}
 use Rattle.promises.proofs.Closing.{by-verdict}
 
--- ---- "Which calls are refused doesn't change": 7 refuses exactly where some lock conflicts
-refused-of : (x : ActiveLock) (c : Bool) (a : ActiveLock) (o : Option ActiveLock) (r : Bool) → isDone (checkConflict x o) ≡ non r → isDone (checkConflict x (cond c (some a) o)) ≡ non (c or r)
-unfolding isDone _or_ non
-refused-of x true a o r h = refl
-refused-of x false a o r h = h
-
-pub refused-as-before : (l : List ActiveLock) (x : ActiveLock) → isDone (checkClear l x) ≡ non (any (conflicts x) l)
-unfolding checkClear isDone non
-refused-as-before [] x = refl
-refused-as-before (a ∷ l) x = refused-of x (conflicts x a) a (find (conflicts x) l) (any (conflicts x) l) (refused-as-before l x)
+-- ---- "Which calls are refused doesn't change": number and id are those of before
+pub refused-as-before : (l : List ActiveLock) (x : ActiveLock) → withoutSpot (paperOf (checkClear l x)) ≡ toldBefore (find (conflicts x) l)
+unfolding checkClear paperOf
+refused-as-before l x = go (find (conflicts x) l)
+  where
+    go : (o : Option ActiveLock) → withoutSpot (paperOf (checkConflict x o)) ≡ toldBefore o
+    go none = refl
+    go (some a) = refl
 
 -- ---- what it tells
--- r is 7 of the first lock in l that conflicts with x, and of where the two meet
-pub record Conflict (l : List ActiveLock) (x : ActiveLock) (r : Answer) : Type 0 where
-  pub lock : ActiveLock
-  pub spot : Spot
-  pub found : find (conflicts x) l ≡ some lock
-  pub told : r ≡ CoverageConflict (lock .lock .id) spot
-  pub meeting : shared (lock .lock .coverage) (x .lock .coverage) ≡ Meets spot
-
-module _ (l : List ActiveLock) (x : ActiveLock) (r : Answer) (c : Conflict l x r) where
+module _ (l : List ActiveLock) (x : ActiveLock) (p : Paper) (c : Conflict l x p) where
   -- the ECU is covered by both locks, and no lower one is
   pub both-cover : (e : ℕ) → c .spot ≡ Ecu e → (e < 256) × Yes (covers (c .lock .lock .coverage) e) × Yes (covers (x .lock .coverage) e)
   both-cover e q = shared-in (c .lock .lock .coverage) (x .lock .coverage) e (c .meeting ∙ ap Meets q)
@@ -77,7 +86,7 @@ abbrev isSeven : Answer → Bool
 isSeven r = eqb (paperOf r .number) 7
 
 Tells : List ActiveLock → ActiveLock → Answer → Type 0
-Tells l x r = Yes (isSeven r) → Conflict l x r
+Tells l x r = Yes (isSeven r) → Conflict l x (paperOf r)
 
 module _ (l : List ActiveLock) (x : ActiveLock) where
   others : (r : Answer) → No (isSeven r) → Tells l x r
@@ -102,30 +111,33 @@ module _ (l : List ActiveLock) (x : ActiveLock) where
   first-tells c f (a ∷ rest) = then-tells _ _ (f a) (first-tells c f rest)
 
   clear-tells : Tells l x (checkClear l x)
-  unfolding checkClear conflicts Tells paperOf
+  unfolding checkClear Tells paperOf
   clear-tells = go (find (conflicts x) l) refl
     where
-      overlaps : (a : ActiveLock) → Yes (conflicts x a) → Yes (overlap (a .lock .coverage) (x .lock .coverage))
-      overlaps a t = and-l _ _ (and-l _ _ t)
-
-      go : (o : Option ActiveLock) → find (conflicts x) l ≡ o → Yes (isSeven (checkConflict x o)) → Conflict l x (checkConflict x o)
+      go : (o : Option ActiveLock) → find (conflicts x) l ≡ o → Yes (isSeven (checkConflict x o)) → Conflict l x (paperOf (checkConflict x o))
       go none e t = absurd (false≢true t)
-      go (some a) e t = record { lock = a; spot = _; found = e; told = refl; meeting = shared-spot (a .lock .coverage) (x .lock .coverage) (overlaps a (find→ (conflicts x) l e .1)) }
+      go (some a) e t =
+          record { lock = a; spot = spotOf (a .lock .coverage) (x .lock .coverage); found = e; meeting = shared-spot (a .lock .coverage) (x .lock .coverage) (conflicts-overlap x a (find→ (conflicts x) l e .1)); told = refl }
+
+  -- 2, 4, 5, 11.3, 11.4, 7, and what comes after them
+  placing-tells : (rest : Answer) → Tells l x rest
+      → Tells l x (andThen (checkScope l x) (andThen (checkParentActive l x) (andThen (checkParentVehicle l x) (andThen (checkParentOwner l x) (andThen (checkParentCover l x) (andThen (checkClear l x) rest))))))
+  unfolding checkScope checkParentActive checkParentVehicle checkParentOwner checkParentCover paperOf
+  placing-tells rest t =
+      then-tells _ _ (plain _ _ refl)
+      (then-tells _ _ (plain _ _ refl)
+      (then-tells _ _ (plain _ _ refl)
+      (then-tells _ _ (plain _ _ refl)
+      (then-tells _ _ (plain _ _ refl)
+      (then-tells _ _ clear-tells t)))))
 
 -- ---- each judgement
 module _ (k : Limits) (m : Model) (x : ActiveLock) where
   insert-tells : Tells (m .active) x (judgeInsert k m x)
-  unfolding judgeInsert checkId checkScope checkParentActive checkParentVehicle checkParentOwner checkParentCover checkRevision checkRoom paperOf
+  unfolding judgeInsert checkId checkRevision checkRoom paperOf
   insert-tells =
       let l = m .active in
-      then-tells l x _ _ (plain l x _ _ refl)
-      (then-tells l x _ _ (plain l x _ _ refl)
-      (then-tells l x _ _ (plain l x _ _ refl)
-      (then-tells l x _ _ (plain l x _ _ refl)
-      (then-tells l x _ _ (plain l x _ _ refl)
-      (then-tells l x _ _ (plain l x _ _ refl)
-      (then-tells l x _ _ (clear-tells l x)
-      (then-tells l x _ _ (plain l x _ _ refl) (plain l x _ _ refl))))))))
+      then-tells l x _ _ (plain l x _ _ refl) (placing-tells l x _ (then-tells l x _ _ (plain l x _ _ refl) (plain l x _ _ refl)))
 
   vehicle-tells : (ws : List ℕ) → Tells [] x (judgeVehicle k m x ws)
   unfolding judgeVehicle checkList checkRoot checkListed checkActive checkFree checkId checkScope checkRevision checkChild checkOwner checkCover checkRoom paperOf
@@ -140,22 +152,17 @@ module _ (k : Limits) (m : Model) (x : ActiveLock) where
       (plain [] x _ _ refl)))))))
 
   replace-tells : (ws : List ℕ) (by at : ℕ) → Tells (cutOf m ws .kept) x (judgeReplace k m ws x by at)
-  unfolding judgeReplace checkList checkActive checkId checkHolder checkScope checkParentActive checkParentVehicle checkParentOwner checkParentCover checkRevision checkCover checkRoom paperOf
+  unfolding judgeReplace checkList checkActive checkId checkHolder checkRevision checkCover checkRoom paperOf
   replace-tells ws by at =
       let l = cutOf m ws .kept in
       then-tells l x _ _ (plain l x _ _ refl)
       (then-tells l x _ _ (first-tells l x (checkActive (m .active)) (λ i. plain l x _ _ refl) (ascendingIds ws))
       (then-tells l x _ _ (plain l x _ _ refl)
       (then-tells l x _ _ (plain l x _ _ refl)
-      (then-tells l x _ _ (plain l x _ _ refl)
-      (then-tells l x _ _ (plain l x _ _ refl)
-      (then-tells l x _ _ (plain l x _ _ refl)
-      (then-tells l x _ _ (plain l x _ _ refl)
-      (then-tells l x _ _ (plain l x _ _ refl)
-      (then-tells l x _ _ (clear-tells l x)
+      (placing-tells l x _
       (then-tells l x _ _ (plain l x _ _ refl)
       (then-tells l x _ _ (first-tells l x (checkCover x) (λ a. plain l x _ _ refl) (filter (orphan x) (cutOf m ws .kept)))
-      (plain l x _ _ refl))))))))))))
+      (plain l x _ _ refl)))))))
 
 -- ---- each operation, on any state: where its number is 7
 -- tested, judged, and closed by a check: each of the other answers is another number's
@@ -177,13 +184,13 @@ module _ (l : List ActiveLock) (x : ActiveLock) (s : LockState) (a : Answer) (n 
       settled-tells (λ (r : Replaced). r .told .answer) l x s (λ rule. replaced (UnsoundState rule) [] s) (isDone a) (sound full n) (replaced Done gone (stateOf n)) (replaced Invariant [] s) (replaced a [] s) (λ rule. refl) refl refl t
 
 module _ (s : LockState) (y : ActiveLock) where
-  pub insert-conflict : paperOf (insertActiveOn s y .told) .number ≡ 7 → Conflict (modelOf s .active) (normal y) (insertActiveOn s y .told)
+  pub insert-conflict : paperOf (insertActiveOn s y .told) .number ≡ 7 → Conflict (modelOf s .active) (normal y) (paperOf (insertActiveOn s y .told))
   unfolding insertActiveOn insertActiveWith Tells
   insert-conflict n = inserted-tells (modelOf s .active) (normal y) s (judgeInsert full (modelOf s) (normal y)) (insertedIn (modelOf s) (normal y)) (insert-tells full (modelOf s) (normal y)) (eq-eqb _ 7 n)
 
   -- the lock in the way is one that stays
   pub replace-conflict : (ws : List ℕ) (by at : ℕ)
-      → paperOf (commitReplacementOn s ws y by at .told .answer) .number ≡ 7 → Conflict (cutOf (modelOf s) ws .kept) (normal y) (commitReplacementOn s ws y by at .told .answer)
+      → paperOf (commitReplacementOn s ws y by at .told .answer) .number ≡ 7 → Conflict (cutOf (modelOf s) ws .kept) (normal y) (paperOf (commitReplacementOn s ws y by at .told .answer))
   unfolding commitReplacementOn commitReplacementWith Tells
   replace-conflict ws by at n =
       replaced-tells (cutOf (modelOf s) ws .kept) (normal y) s (judgeReplace full (modelOf s) ws (normal y) by at) (replacedIn (modelOf s) ws (normal y) by at) (replace-tells full (modelOf s) (normal y) ws by at) (cutOf (modelOf s) ws .gone) (eq-eqb _ 7 n)
@@ -195,5 +202,58 @@ module _ (s : LockState) (y : ActiveLock) where
       Option·none-ne-some _ (inserted-tells [] (normal y) s (judgeVehicle full (modelOf s) (normal y) ws) (vehicleIn (modelOf s) (normal y) ws) (vehicle-tells full (modelOf s) (normal y) ws) (eq-eqb _ 7 n) .found)
 
 -- in a sound state the lock in a replacement's way is one of those at entry, as it was
-pub at-entry : (s : LockState) (ws : List ℕ) (x : ActiveLock) (r : Answer) → brokenRule s ≡ Sound → (c : Conflict (cutOf (modelOf s) ws .kept) x r) → Mem (c .lock) (modelOf s .active)
-at-entry s ws x r e c = cut-roots (modelOf s) ws (stands-of full (modelOf s) (sound-of s e) .core) .split .stays (c .lock) (find→ (conflicts x) (cutOf (modelOf s) ws .kept) (c .found) .0)
+at-entry : (s : LockState) (ws : List ℕ) (x : ActiveLock) (p : Paper) → brokenRule s ≡ Sound → (c : Conflict (cutOf (modelOf s) ws .kept) x p) → Mem (c .lock) (modelOf s .active)
+at-entry s ws x p e c = cut-roots (modelOf s) ws (stands-of full (modelOf s) (sound-of s e) .core) .split .stays (c .lock) (find→ (conflicts x) (cutOf (modelOf s) ws .kept) (c .found) .0)
+
+-- ---- the one call: no other operation tells 7
+renewal-other : (a : Renewal) → renewalPaper a .number ≡ 7 → ⊥
+unfolding renewalPaper
+renewal-other renewal.Done n = omega (arith, n)
+renewal-other (renewal.ActiveLockNotFound i) n = omega (arith, n)
+renewal-other renewal.RevisionOverflow n = omega (arith, n)
+renewal-other renewal.LockExpired n = omega (arith, n)
+renewal-other renewal.RenewalNotExtension n = omega (arith, n)
+renewal-other (renewal.UnsoundState r) n = omega (arith, n)
+
+deletion-other : (a : Deletion) → deletionPaper a .number ≡ 7 → ⊥
+unfolding deletionPaper
+deletion-other deletion.Done n = omega (arith, n)
+deletion-other (deletion.ActiveLockNotFound i) n = omega (arith, n)
+deletion-other deletion.RevisionOverflow n = omega (arith, n)
+deletion-other (deletion.UnsoundState r) n = omega (arith, n)
+
+expiration-other : (a : Expiration) → expirationPaper a .number ≡ 7 → ⊥
+unfolding expirationPaper
+expiration-other expiration.Done n = omega (arith, n)
+expiration-other expiration.Stale n = omega (arith, n)
+expiration-other (expiration.NotDue t) n = omega (arith, n)
+expiration-other expiration.RevisionOverflow n = omega (arith, n)
+expiration-other (expiration.UnsoundState r) n = omega (arith, n)
+
+acknowledgement-other : (a : Acknowledgement) → acknowledgementPaper a .number ≡ 7 → ⊥
+unfolding acknowledgementPaper
+acknowledgement-other acknowledgement.Done n = omega (arith, n)
+acknowledgement-other acknowledgement.Absent n = omega (arith, n)
+acknowledgement-other acknowledgement.RevisionOverflow n = omega (arith, n)
+acknowledgement-other (acknowledgement.UnsoundState r) n = omega (arith, n)
+
+expiry-other : (a : DefunctExpiry) → expiryPaper a .number ≡ 7 → ⊥
+unfolding expiryPaper
+expiry-other expiry.Done n = omega (arith, n)
+expiry-other expiry.RevisionOverflow n = omega (arith, n)
+expiry-other (expiry.UnsoundState r) n = omega (arith, n)
+
+module _ (s : LockState) (e : brokenRule s ≡ Sound) (ws : List ℕ) where
+  abbrev Answered : Request → Type 0
+  Answered r = outcomePaper (performOn s r ws .outcome) .number ≡ 7 → InConflict s r ws (outcomePaper (performOn s r ws .outcome))
+
+  pub perform-conflict : (r : Request) → Answered r
+  unfolding performOn outcomePaper
+  perform-conflict (Insert y) n = inserting (insert-conflict s y n)
+  perform-conflict (InsertVehicle y) n = absurd (vehicle-no-conflict s y ws n)
+  perform-conflict (Renew r) n = absurd (renewal-other (renewOn s (r .id) (r .expires) (r .now) (r .given) (r .metadata) .told) n)
+  perform-conflict (Delete i) n = absurd (deletion-other (deleteOn s i .told .answer) n)
+  perform-conflict (BeginExpiration r) n = absurd (expiration-other (beginExpirationOn s (r .id) (r .now) .told .answer) n)
+  perform-conflict (Replace r) n = let c = replace-conflict s (r .lock) ws (r .breaker) (r .broken) n in replacing c (at-entry s ws (normal (r .lock)) _ e c)
+  perform-conflict (Acknowledge i) n = absurd (acknowledgement-other (acknowledgeOn s i .told) n)
+  perform-conflict (ExpireDefunct now) n = absurd (expiry-other (expireDefunctOn s now .told .answer) n)

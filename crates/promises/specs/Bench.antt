@@ -109,7 +109,7 @@ unfoldable pub rows : List Row
 rows =
     -- "*A: revision 1."
     record { ops = A ∷ []; says = paper 0 []; removed = []; revision = 1; active = 1 ∷ []; defunct = [] }
-    -- "*A, then id 2, group 3, {5,6}, subject 2: 7 with id 1."
+    -- "*A, then id 2, group 3, {5,6}, subject 2: 7 with id 1." and, by 02's C-13, ECU 5
     ∷ record { ops = A ∷ insert 2 (FunctionalGroup 3) (set (5 ∷ 6 ∷ [])) 2 ∷ []; says = paper 7 (0 ∷ 1 ∷ 1 ∷ 5 ∷ []); removed = []; revision = 1; active = 1 ∷ []; defunct = [] }
     -- "*With {6}: done."
     ∷ record { ops = A ∷ insert 2 (FunctionalGroup 3) (set (6 ∷ [])) 2 ∷ []; says = paper 0 []; removed = []; revision = 2; active = 1 ∷ 2 ∷ []; defunct = [] }

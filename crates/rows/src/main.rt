@@ -1,5 +1,6 @@
 // Every row of document 01's bench sheet, run on the code. A line a row: its name, then for its last operation the answer's
-// number, the revision, how many active and defunct locks are left, and what the row speaks of (an id, a time, the removed).
+// number, the revision, how many active and defunct locks are left, and what the row speaks of (an id, an ECU, a time, the
+// removed).
 // SPDX-License-Identifier: Apache-2.0
 use coverage::LockCoverage;
 use coverage::Spot;

@@ -6,7 +6,7 @@
 //!                                              a part of the tiny universe, every byte of a
 //!                                              rich image, the directed conflicts; fails on an
 //!                                              answer seldom seen
-//! differential blocks [OPERATIONS] [SEED] [THREADS]   the random states alone, and a few conflicts
+//! differential blocks [OPERATIONS] [SEED] [THREADS]   random states, and conflicts at a few ECUs
 //! differential block SEED                      one block of random states again
 //! differential conflicts [THREADS]             locks that overlap at every ECU, and at none
 //! differential tiny [STEP]                     every STEP-th state of the tiny universe
@@ -310,8 +310,8 @@ fn whole(operations: u64, seed: u64, threads: u64) -> ExitCode {
     seldom(&sum)
 }
 
-/// The random states alone, and conflicts at a few ECUs: what an emulator can do in a time that
-/// one waits for.
+/// Random states, and conflicts at a few ECUs: what an emulator can do in a time that one waits
+/// for.
 fn blocks(operations: u64, seed: u64, threads: u64) -> ExitCode {
     let start = Instant::now();
     let Some(mut sum) = conflicts_part(conflicts::BORDERS, threads) else {
