@@ -108,7 +108,7 @@ module _ (odd : Bool) where
   entry-not l t ws x = then-not _ _ (first-not (checkActive l) (active-not l) (ascendingIds ws)) (then-not _ _ (refuse-not _ _ _ refl refl) (refuse-not _ _ _ refl refl))
 
 -- ---- chains
-then-assoc : (a b c : Answer) → andThen a (andThen b c) ≡ andThen (andThen a b) c
+pub then-assoc : (a b c : Answer) → andThen a (andThen b c) ≡ andThen (andThen a b) c
 unfolding andThen
 then-assoc a b c = go (isDone a) refl
   where

@@ -1,7 +1,7 @@
 -- 02, C-13: what 7 tells. It is told of the calls it was told of before, with the id of the lock in the way, and where the
 -- two meet: at the lowest ECU that both cover, or at none as `shared` says. Of each operation, and of the one call.
 -- Assumes nothing.
-use mathlib.Core.Path.{_≡_, refl, sym, ap, _∙_}
+use mathlib.Core.Path.{_≡_, refl, sym, subst, ap, _∙_}
 use mathlib.Core.Bool.{Bool, true, false, cond, false≢true}
 use mathlib.Core.List.{List, [], _∷_}
 use mathlib.Core.Option.{Option, none, some, Option·none-ne-some}
@@ -42,7 +42,7 @@ use Rattle.operations.specs.declared.answers.DefunctExpiry.the-variants as expi
 use Rattle.operations.specs.declared.answers.Inserted.{Inserted}
 use Rattle.operations.specs.declared.answers.Replaced.{Replaced}
 use Rattle.operations.specs.Answers.{paperOf, renewalPaper, deletionPaper, expirationPaper, acknowledgementPaper, expiryPaper, isDone, refuseIf, andThen, firstRefusal}
-use Rattle.operations.specs.Checks.{checkList, checkId, checkScope, checkParentActive, checkParentVehicle, checkParentOwner, checkParentCover, conflicts, checkConflict, checkClear, checkRevision, checkRoom, checkRoot, checkActive, checkFree, checkListed, checkOwner, checkCover, checkChild, checkHolder}
+use Rattle.operations.specs.Checks.{checkList, checkId, checkScope, checkParentActive, checkParentVehicle, checkParentOwner, checkParentCover, conflicts, conflictWith, checkConflict, checkClear, checkRevision, checkRoom, checkRoot, checkActive, checkFree, checkListed, checkOwner, checkCover, checkChild, checkHolder}
 use Rattle.operations.specs.Insert.{insertedIn, judgeInsert, inserted, closedInsert, settledInsert, insertActiveWith, insertActiveOn}
 use Rattle.operations.specs.Vehicle.{vehicleIn, judgeVehicle, insertVehicleWith, insertVehicleOn}
 use Rattle.operations.specs.Trees.{isListed}
@@ -54,10 +54,11 @@ use Rattle.operations.specs.Acknowledge.{acknowledgeOn, expireDefunctOn}
 use Rattle.records.specs.declared.requests.Request.{Request}
 use Rattle.records.specs.declared.requests.Request.the-variants.{Insert, InsertVehicle, Renew, Delete, BeginExpiration, Replace, Acknowledge, ExpireDefunct}
 use Rattle.calls.specs.Calls.{performOn, outcomePaper}
-use Rattle.promises.specs.Spots.{toldBefore, withoutSpot, Conflict, InConflict, inserting, replacing}
+use Rattle.promises.specs.Spots.{toldBefore, withoutSpot, placing, insertBefore7, replaceBefore7, Conflict, InConflict, inserting, replacing}
 use Rattle.promises.proofs.Core.{stands-of}
 use Rattle.promises.proofs.Removal.{cut-roots}
-use Rattle.promises.proofs.Closing.{by-verdict}
+use Rattle.promises.proofs.Answered.{then-assoc}
+use Rattle.promises.proofs.Closing.{by-verdict, insert-exactly, replace-exactly}
 
 -- ---- "Which calls are refused doesn't change": number and id are those of before
 pub refused-as-before : (l : List ActiveLock) (x : ActiveLock) → withoutSpot (paperOf (checkClear l x)) ≡ toldBefore (find (conflicts x) l)
@@ -119,25 +120,30 @@ module _ (l : List ActiveLock) (x : ActiveLock) where
       go (some a) e t =
           record { lock = a; spot = spotOf (a .lock .coverage) (x .lock .coverage); found = e; meeting = shared-spot (a .lock .coverage) (x .lock .coverage) (conflicts-overlap x a (find→ (conflicts x) l e .1)); told = refl }
 
-  -- 2, 4, 5, 11.3, 11.4, 7, and what comes after them
-  placing-tells : (rest : Answer) → Tells l x rest
-      → Tells l x (andThen (checkScope l x) (andThen (checkParentActive l x) (andThen (checkParentVehicle l x) (andThen (checkParentOwner l x) (andThen (checkParentCover l x) (andThen (checkClear l x) rest))))))
+  placing-tells : Tells l x (placing l x)
   unfolding checkScope checkParentActive checkParentVehicle checkParentOwner checkParentCover paperOf
-  placing-tells rest t =
-      then-tells _ _ (plain _ _ refl)
-      (then-tells _ _ (plain _ _ refl)
-      (then-tells _ _ (plain _ _ refl)
-      (then-tells _ _ (plain _ _ refl)
-      (then-tells _ _ (plain _ _ refl)
-      (then-tells _ _ clear-tells t)))))
+  placing-tells = then-tells _ _ (plain _ _ refl) (then-tells _ _ (plain _ _ refl) (then-tells _ _ (plain _ _ refl) (then-tells _ _ (plain _ _ refl) (plain _ _ refl))))
 
--- ---- each judgement
+-- ---- each judgement: the checks before 7, 7, and those after it
+insert-split : (k : Limits) (m : Model) (x : ActiveLock)
+    → judgeInsert k m x ≡ andThen (andThen (insertBefore7 m x) (checkClear (m .active) x)) (andThen (checkRevision (m .revision)) (checkRoom k (insertedIn m x)))
+unfolding judgeInsert
+insert-split k m x = simp then-assoc
+
+replace-split : (k : Limits) (m : Model) (ws : List ℕ) (x : ActiveLock) (by at : ℕ)
+    → judgeReplace k m ws x by at
+    ≡ andThen (andThen (replaceBefore7 m ws x) (checkClear (cutOf m ws .kept) x))
+    (andThen (checkRevision (m .revision)) (andThen (firstRefusal (checkCover x) (filter (orphan x) (cutOf m ws .kept))) (checkRoom k (replacedIn m ws x by at))))
+unfolding judgeReplace
+replace-split k m ws x by at = simp then-assoc
+
 module _ (k : Limits) (m : Model) (x : ActiveLock) where
   insert-tells : Tells (m .active) x (judgeInsert k m x)
-  unfolding judgeInsert checkId checkRevision checkRoom paperOf
+  unfolding checkId checkRevision checkRoom paperOf
   insert-tells =
       let l = m .active in
-      then-tells l x _ _ (plain l x _ _ refl) (placing-tells l x _ (then-tells l x _ _ (plain l x _ _ refl) (plain l x _ _ refl)))
+      subst (Tells l x) (sym (insert-split k m x))
+      (then-tells l x _ _ (then-tells l x _ _ (then-tells l x _ _ (plain l x _ _ refl) (placing-tells l x)) (clear-tells l x)) (then-tells l x _ _ (plain l x _ _ refl) (plain l x _ _ refl)))
 
   vehicle-tells : (ws : List ℕ) → Tells [] x (judgeVehicle k m x ws)
   unfolding judgeVehicle checkList checkRoot checkListed checkActive checkFree checkId checkScope checkRevision checkChild checkOwner checkCover checkRoom paperOf
@@ -152,17 +158,18 @@ module _ (k : Limits) (m : Model) (x : ActiveLock) where
       (plain [] x _ _ refl)))))))
 
   replace-tells : (ws : List ℕ) (by at : ℕ) → Tells (cutOf m ws .kept) x (judgeReplace k m ws x by at)
-  unfolding judgeReplace checkList checkActive checkId checkHolder checkRevision checkCover checkRoom paperOf
+  unfolding checkList checkActive checkId checkHolder checkRevision checkCover checkRoom paperOf
   replace-tells ws by at =
       let l = cutOf m ws .kept in
-      then-tells l x _ _ (plain l x _ _ refl)
+      subst (Tells l x) (sym (replace-split k m ws x by at))
+      (then-tells l x _ _
+      (then-tells l x _ _
+      (then-tells l x _ _ (plain l x _ _ refl)
       (then-tells l x _ _ (first-tells l x (checkActive (m .active)) (λ i. plain l x _ _ refl) (ascendingIds ws))
+      (then-tells l x _ _ (plain l x _ _ refl) (then-tells l x _ _ (plain l x _ _ refl) (placing-tells l x)))))
+      (clear-tells l x))
       (then-tells l x _ _ (plain l x _ _ refl)
-      (then-tells l x _ _ (plain l x _ _ refl)
-      (placing-tells l x _
-      (then-tells l x _ _ (plain l x _ _ refl)
-      (then-tells l x _ _ (first-tells l x (checkCover x) (λ a. plain l x _ _ refl) (filter (orphan x) (cutOf m ws .kept)))
-      (plain l x _ _ refl)))))))
+      (then-tells l x _ _ (first-tells l x (checkCover x) (λ a. plain l x _ _ refl) (filter (orphan x) (cutOf m ws .kept))) (plain l x _ _ refl))))
 
 -- ---- each operation, on any state: where its number is 7
 -- tested, judged, and closed by a check: each of the other answers is another number's
@@ -200,6 +207,29 @@ module _ (s : LockState) (y : ActiveLock) where
   unfolding insertVehicleOn insertVehicleWith Tells
   vehicle-no-conflict ws n =
       Option·none-ne-some _ (inserted-tells [] (normal y) s (judgeVehicle full (modelOf s) (normal y) ws) (vehicleIn (modelOf s) (normal y) ws) (vehicle-tells full (modelOf s) (normal y) ws) (eq-eqb _ 7 n) .found)
+
+-- ---- and back: on a sound state, where the checks before it pass and a lock conflicts, 7 is told of the first such lock, and
+-- the state stays. So 7 refuses the calls of before: neither those checks nor `conflicts` moved
+refused-in : (early late : Answer) (l : List ActiveLock) (x a : ActiveLock) → Yes (isDone early) → find (conflicts x) l ≡ some a → andThen (andThen early (checkClear l x)) late ≡ conflictWith x a
+unfolding andThen checkClear isDone
+refused-in early late l x a t f = rw (t, f)
+
+module _ (s : LockState) (e : brokenRule s ≡ Sound) (y a : ActiveLock) where
+  pub insert-refused : Yes (isDone (insertBefore7 (modelOf s) (normal y))) → find (conflicts (normal y)) (modelOf s .active) ≡ some a
+      → insertActiveOn s y ≡ inserted (conflictWith (normal y) a) s
+  unfolding isDone
+  insert-refused t f =
+      insert-exactly s y e
+      ∙ ap (λ (j : Answer). cond (isDone j) (inserted Done (stateOf (insertedIn (modelOf s) (normal y)))) (inserted j s))
+      (insert-split full (modelOf s) (normal y) ∙ refused-in _ _ _ (normal y) a t f)
+
+  pub replace-refused : (ws : List ℕ) (by at : ℕ) → Yes (isDone (replaceBefore7 (modelOf s) ws (normal y))) → find (conflicts (normal y)) (cutOf (modelOf s) ws .kept) ≡ some a
+      → commitReplacementOn s ws y by at ≡ replaced (conflictWith (normal y) a) [] s
+  unfolding isDone
+  replace-refused ws by at t f =
+      replace-exactly s ws y by at e
+      ∙ ap (λ (j : Answer). cond (isDone j) (replaced Done (cutOf (modelOf s) ws .gone) (stateOf (replacedIn (modelOf s) ws (normal y) by at))) (replaced j [] s))
+      (replace-split full (modelOf s) ws (normal y) by at ∙ refused-in _ _ _ (normal y) a t f)
 
 -- in a sound state the lock in a replacement's way is one of those at entry, as it was
 at-entry : (s : LockState) (ws : List ℕ) (x : ActiveLock) (p : Paper) → brokenRule s ≡ Sound → (c : Conflict (cutOf (modelOf s) ws .kept) x p) → Mem (c .lock) (modelOf s .active)
