@@ -5,4 +5,5 @@
 pub mod conflicts;
 pub mod pair;
 pub mod run;
+pub mod stories;
 pub mod tally;

@@ -13,6 +13,7 @@ use oracle::{
 
 use crate::{
     pair::{self, Buffers, Question, Subject},
+    stories::{self, Side},
     tally::{Tally, label},
 };
 
@@ -22,6 +23,12 @@ pub const STATES: usize = 64;
 /// Kinds of operation tried on every state, in the order of [`Operation`]; those with the most
 /// answers twice or thrice.
 const KINDS: [usize; 14] = [0, 0, 0, 1, 1, 2, 3, 4, 5, 5, 5, 6, 7, 8];
+
+/// The same for stories: what clears, what may put a name in, what tells another story.
+const STORY_KINDS: [usize; 12] = [6, 6, 6, 7, 7, 8, 0, 0, 1, 1, 3, 5];
+
+/// Entries of a state that are asked for their story.
+const ASKED: usize = 4;
 
 const FEED_NAMES: [&str; 8] = [
     "insert_active",
@@ -106,6 +113,7 @@ impl Run {
         self.prepare(&subject);
         self.odd_scope(&image);
         assert_eq!(image, kept, "a lent image was written");
+        self.stories(&case);
         self.damaged(&case, &image);
         self.unsound(&case, expected);
         if matches!(
@@ -192,6 +200,27 @@ impl Run {
         let told = pair::read(&mut self.buffers, subject, asked, length);
         self.tally.calls += 1;
         self.tally.see(read.name(), label(&told));
+    }
+
+    /// An operation, and what is told of some of the entries that it leaves: 02, C-20.
+    fn stories(&mut self, case: &Case) {
+        if case.state.defunct.is_empty() {
+            return;
+        }
+        let kind = STORY_KINDS[self.rng.below(STORY_KINDS.len())];
+        let operation = generate::operation_of(&mut self.rng, case, kind);
+        let mut before = Side::new(&case.state);
+        let Some(mut after) = before.after(&operation) else {
+            return;
+        };
+        self.tally.operations += 1;
+        let left = after.state().defunct.clone();
+        let first = self.rng.below(left.len() + 1);
+        for entry in left.iter().cycle().skip(first).take(ASKED.min(left.len())) {
+            let turn = stories::turn(&mut before, &mut after, &operation, entry);
+            self.tally.calls += 4;
+            self.tally.see("stories", turn);
+        }
     }
 
     fn prepare(&mut self, subject: &Subject<'_>) {

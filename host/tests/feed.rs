@@ -3,8 +3,8 @@
 //! their data, and what a spare keeps.
 
 use cablegorse::{
-    Active, Coverage, Done, Lock, LockId, Operation, Reason, Refusal, Replica, ResponseClass, Run,
-    Scope,
+    Active, Coverage, Defunct, Done, Lock, LockId, Operation, Reason, Refusal, Replica,
+    ResponseClass, Run, Scope,
     library::{self, ChunkPart, Part, Told},
     response_class,
 };
@@ -205,6 +205,33 @@ fn replacement_and_defunct_locks() {
     let step = perform(&mut other, Operation::AcknowledgeDefunct { id: id(1) });
     assert_eq!(step.answer, Ok(Done::Absent));
     assert_eq!(other.revision(), spare.revision());
+}
+
+/// 02, C-20: who holds now is the same after an entry on the way was cleared, asked with the entry
+/// looked up again. A copy from before names an entry that is gone.
+#[test]
+fn an_entry_is_looked_up_again() {
+    let mut spare = a();
+    for (old, new) in [(1, 2), (2, 3)] {
+        let replacement = Operation::CommitReplacement {
+            roots: vec![id(old)],
+            lock: lock(new, Scope::Ecu(5), &[5], new as u16),
+            broken_by: 0,
+            broken_at: 0,
+        };
+        assert_eq!(perform(&mut spare, replacement).answer, Ok(Done::Done));
+    }
+    let told = |spare: &Replica, broken: &Defunct| {
+        let holder = spare.current_holder(broken);
+        (holder.subject, holder.links)
+    };
+    let copy = spare.defunct_by_id(id(1)).unwrap();
+    assert_eq!(told(&spare, &copy), (3, 1));
+    let clear = Operation::AcknowledgeDefunct { id: id(2) };
+    assert_eq!(perform(&mut spare, clear).answer, Ok(Done::Done));
+    let again = spare.defunct_by_id(id(1)).unwrap();
+    assert_eq!(told(&spare, &again), (3, 0));
+    assert_eq!(told(&spare, &copy), (2, 0));
 }
 
 #[test]

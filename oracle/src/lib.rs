@@ -9,6 +9,7 @@
 //! - [`paper`]: document 01 restated on the model, to be compared with the judge.
 //! - [`generate`]: seeded random sound states, operations, reads, feeds and damage.
 //! - [`small`]: every state and operation of a tiny universe.
+//! - [`stories`]: what clearing away leaves of who holds now (02, C-20).
 //! - [`vectors`]: a fixed sample of the answers as data.
 //! - [`mod@bench`]: states and operations to time.
 //! - [`sweep`]: every single-byte change and every cut of an image.
@@ -28,6 +29,7 @@ pub mod paper;
 pub mod rules;
 pub mod small;
 mod sovd;
+pub mod stories;
 pub mod sweep;
 pub mod vectors;
 pub mod wire;

@@ -31,7 +31,7 @@ use differential::{
     run::{Run, rich, tiny_universe},
     tally::{REACHABLE, Tally},
 };
-use oracle::{judge, wire};
+use oracle::{judge, stories, wire};
 
 /// Each reachable answer is to be seen this often.
 const OFTEN: u64 = 100;
@@ -357,7 +357,8 @@ fn ended(sum: &Tally, seed: u64, threads: u64, start: Instant) {
 
 fn seldom(sum: &Tally) -> ExitCode {
     let mut code = ExitCode::SUCCESS;
-    for answer in REACHABLE.iter().chain(&["0 stale", "0 not due", "0 false"]) {
+    let besides = ["0 stale", "0 not due", "0 false"];
+    for answer in REACHABLE.iter().chain(&besides).chain(&stories::TELLING) {
         let count = sum.count(answer);
         if count < OFTEN {
             println!("SELDOM: answer {answer} was seen {count} times, {OFTEN} are asked for");

@@ -18,7 +18,7 @@ use oracle::{
     original::Original,
     paper,
     rules::broken_rule,
-    small, wire,
+    small, stories, wire,
 };
 
 /// How often each (function, answer) was seen.
@@ -173,6 +173,24 @@ impl Run {
         check_kept(before, operation, &outcome);
         let paper = paper::apply(before, operation);
         assert_eq!(outcome, paper, "01 and the original differ: {}", at());
+        self.stories(before, operation, &outcome.state);
+    }
+
+    /// What the original tells of every remaining entry, before and after: 02, C-20.
+    fn stories(&mut self, before: &State, operation: &Operation, after: &State) {
+        if before == after {
+            return;
+        }
+        let stated = stories::is_stated(operation, after);
+        let (mut old, mut new) = (Judge::new(before), Judge::new(after));
+        for entry in &after.defunct {
+            let turn = stories::turn(&mut old, &mut new, entry);
+            assert!(
+                turn.is_kept() || !stated,
+                "{turn:?} of {entry:?} by {operation:?}\nbefore {before:?}\nafter {after:?}"
+            );
+            self.seen.see("stories", turn.label(stated));
+        }
     }
 
     fn read(&mut self, case: &Case, judge: &mut Judge, kind: usize) {
@@ -341,7 +359,7 @@ impl Run {
             "26",
         ];
         let mut code = ExitCode::SUCCESS;
-        for answer in wanted {
+        for answer in wanted.iter().chain(&stories::TELLING) {
             if self.seen.count(answer) < 20 {
                 println!("seldom seen: {answer}");
                 code = ExitCode::FAILURE;

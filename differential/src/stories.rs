@@ -1,0 +1,97 @@
+// SPDX-License-Identifier: Apache-2.0
+//! 02, C-20: what a host is told of its defunct entries before and after an operation, each looked
+//! up anew by its id. By the library through the safe crate, and by the original.
+
+use cablegorse::{LockId, Replica};
+use oracle::{
+    judge::Judge,
+    model::{Defunct, Id, Operation, Scope, State},
+    stories::{self, Story, Turn},
+    wire,
+};
+
+/// A state on both sides.
+pub struct Side {
+    library: Replica,
+    original: Judge,
+}
+
+impl Side {
+    /// # Panics
+    ///
+    /// On a state that isn't sound.
+    #[must_use]
+    pub fn new(state: &State) -> Self {
+        let image = wire::write_image(state, 0).expect("a sound state");
+        Self {
+            library: Replica::from_image(&image).expect("a sound state"),
+            original: Judge::new(state),
+        }
+    }
+
+    #[must_use]
+    pub fn state(&self) -> &State {
+        self.original.state()
+    }
+
+    /// The same after an operation, or nothing where no record holds it.
+    #[must_use]
+    pub fn after(&self, operation: &Operation) -> Option<Self> {
+        let original = Judge::new(&self.original.apply(operation).state);
+        let mut library = self.library.clone();
+        match operation {
+            Operation::DeleteDefunct { id, scope, subject } => {
+                // The answer is compared elsewhere; what is left is compared here.
+                let _ = library.delete_defunct(LockId(id.0), in_the_crate(*scope), *subject);
+            }
+            _ => {
+                library.apply(&wire::write_feed(operation, 0)?, 0);
+            }
+        }
+        let image = wire::write_image(original.state(), library.expected());
+        assert_eq!(image.as_deref(), Ok(library.image()), "{operation:?}");
+        Some(Self { library, original })
+    }
+
+    /// What both tell of the entry that they find by its id.
+    fn told(&mut self, id: Id) -> Option<Story> {
+        let found = self.library.defunct_by_id(LockId(id.0));
+        let ours = found.map(|entry| self.library.current_holder(&entry));
+        let entry = self.state().defunct_at(id).copied();
+        let theirs = entry.map(|entry| stories::told(&mut self.original, &entry));
+        assert_eq!(
+            ours.map(|held| (held.subject, u32::from(held.links))),
+            theirs.map(|story| (story.subject, story.links)),
+            "{id} of {:?}",
+            self.state()
+        );
+        theirs
+    }
+}
+
+/// What became of a remaining entry's story.
+///
+/// # Panics
+///
+/// Where the two sides differ, or a story isn't kept that 02 says is.
+pub fn turn(before: &mut Side, after: &mut Side, operation: &Operation, entry: &Defunct) -> String {
+    let id = entry.lock.id;
+    let was = before.told(id);
+    let turn = Turn::of(was, after.told(id).expect("it remains"));
+    let stated = stories::is_stated(operation, after.state());
+    assert!(
+        turn.is_kept() || !stated,
+        "{turn:?} of {entry:?} by {operation:?}\nbefore {:?}\nafter {:?}",
+        before.state(),
+        after.state()
+    );
+    turn.label(stated)
+}
+
+fn in_the_crate(scope: Scope) -> cablegorse::Scope {
+    match scope {
+        Scope::Vehicle => cablegorse::Scope::Vehicle,
+        Scope::Ecu(ecu) => cablegorse::Scope::Ecu(ecu),
+        Scope::Group(group) => cablegorse::Scope::FunctionalGroup(group),
+    }
+}
