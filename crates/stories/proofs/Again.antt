@@ -1,14 +1,10 @@
 -- C-20 in the words of the reads: who looks an entry up again and asks with what is found is told the same holder, through no
 -- more entries. Assumes nothing.
 use mathlib.Core.Path.{_≡_, refl, sym, ap, _∙_}
-use mathlib.Core.Bool.{Bool, true, false, false≢true}
-use mathlib.Core.List.{List}
 use mathlib.Core.Option.{Option, none, some}
 use Prim.Native.Nat.{ℕ}
-use lib.Dec.{eqb, leb}
 use borrow.Author.Tests.{eqb-true, leb-true}
-use Rattle.lists.specs.Tests.{_and_, Yes}
-use Rattle.lists.specs.Lists.{find}
+use Rattle.lists.specs.Tests.{Yes}
 use Rattle.lists.proofs.Tests.{and-l, and-r}
 use Rattle.ids.specs.declared.LockId.{LockId}
 use Rattle.ids.specs.Order.{key}
@@ -28,10 +24,10 @@ use Rattle.locks.specs.Locks.{deleteDefunctOn}
 use Rattle.promises.specs.Steps.{Op, stepOn}
 use Rattle.promises.proofs.Again.{accepted-again}
 use Rattle.promises.proofs.Dropping.{delete-defunct-accepted}
-use Rattle.stories.specs.Stories.{sameStory, keepsStories, stated, statedAll, afterAll}
+use Rattle.stories.specs.Stories.{sameStory, StoriesKept, stated}
 use Rattle.stories.specs.Again.{ToldTheSame}
 use Rattle.stories.proofs.Kept.{keeps→}
-use Rattle.stories.proofs.Stories.{step-story, delete-defunct-story, run-story, run-accepted}
+use Rattle.stories.proofs.Stories.{step-story, delete-defunct-story}
 
 -- ---- the two reads on a sound state
 abbrev found : FoundDefunct → Option DefunctLock
@@ -53,7 +49,7 @@ module _ (s : LockState) (e : brokenRule s ≡ Sound) where
   holder-told d = sym (on-sound s _ _ (brokenRule s) refl e)
 
 -- ---- two sound states, the later with the stories of the earlier
-pub told-the-same : (s t : LockState) → brokenRule s ≡ Sound → brokenRule t ≡ Sound → Yes (keepsStories (modelOf s) (modelOf t)) → ToldTheSame s t
+pub told-the-same : (s t : LockState) → brokenRule s ≡ Sound → brokenRule t ≡ Sound → StoriesKept s t → ToldTheSame s t
 unfolding sameStory
 told-the-same s t e f k i d q =
     let at : findD (modelOf t .defunct) (key i) ≡ some d = sym (found-told _) ∙ ap found (sym (by-id t f i) ∙ q) in
@@ -69,13 +65,10 @@ told-the-same s t e f k i d q =
       fall = leb-true _ _ (and-r _ _ (w .2));
     }
 
--- ---- after any operation that it is stated of, after delete_defunct, after any number of such operations
+-- ---- after any operation that it is stated of, and after delete_defunct
 module _ (s : LockState) (e : brokenRule s ≡ Sound) where
   pub step-told : (o : Op) → Yes (stated o (modelOf (stepOn s o))) → ToldTheSame s (stepOn s o)
   step-told o t = told-the-same s (stepOn s o) e (accepted-again s e o) (step-story s e o t)
 
   pub delete-defunct-told : (i : LockId) (k : ScopeKey) (subject : ℕ) → ToldTheSame s (deleteDefunctOn s i k subject .state)
   delete-defunct-told i k subject = told-the-same s _ e (delete-defunct-accepted s e i k subject _ refl) (delete-defunct-story s e i k subject)
-
-  pub run-told : (os : List Op) → Yes (statedAll s os) → ToldTheSame s (afterAll s os)
-  run-told os t = told-the-same s (afterAll s os) e (run-accepted os s e) (run-story s e os t)

@@ -24,7 +24,7 @@ use Rattle.state.specs.declared.LockState.{LockState}
 use Rattle.state.specs.Locks.{dkey, isVehicle, isGroup, ecuIn, scopeCode, sameScope, hasId, hasIdD, blankActive, blankDefunct, normal}
 use Rattle.state.specs.Model.{Model, fits, emptyModel, modelOf, stateOf}
 use Rattle.rules.specs.Rules.{zeroId, zeroSet, zeroLock, isBlankA, isBlankD, blanks, inOrder, neatL, neatA, neatD, neat, rule0, rule1, rule2, rule3, rule4, rule5, rule6, rule7, clash, rule8, meetsNone, rule9, brokenRule, sound}
-use Rattle.lookups.specs.Reads.{onSound, onScope, narrow, coversDefunct, Held, held, walk, holderOf}
+use Rattle.lookups.specs.Reads.{onSound, onScope, narrow, coversDefunct, held, walk, holderOf}
 use Rattle.operations.specs.declared.answers.Acknowledgement.the-variants as acknowledgement
 use Rattle.operations.specs.Answers.{isDone, refuseIf, andThen}
 use Rattle.operations.specs.Defuncts.{redirect, other, removeD, superseded, supersede, toDefunct}
@@ -37,7 +37,7 @@ use Rattle.operations.specs.Replace.{orphan, enteredOf, replacedIn, judgeReplac
 use Rattle.operations.specs.Acknowledge.{shedIn, toldAcknowledge, acknowledgedTo, acknowledgeOn}
 use Rattle.promises.specs.Steps.{Op, delete, acknowledge, stepOn}
 use Rattle.promises.specs.Bench.{idOf, set, insert, replace}
-use Rattle.stories.specs.Stories.{sameStory, keepsStories, unnamed, afterAll}
+use Rattle.stories.specs.Stories.{sameStory, keepsStories, unnamed}
 
 -- of each entry its id, who holds, through how many
 abbrev tales : Model → List DefunctLock → List ℕ
@@ -55,7 +55,7 @@ abbrev broken : ℕ → ℕ → ℕ → Op
 broken old new subject = replace (old ∷ []) new (Ecu 5) (set (5 ∷ [])) subject
 
 abbrev one : LockState
-one = afterAll (stateOf emptyModel) (granted 1 1 ∷ broken 1 2 2 ∷ [])
+one = stepOn (stepOn (stateOf emptyModel) (granted 1 1)) (broken 1 2 2)
 
 abbrev two : LockState
 two = stepOn one (broken 2 3 3)
@@ -97,7 +97,7 @@ pub record Computed : Type 0 where
   replacement : (told one ≡ 1 ∷ 2 ∷ 0 ∷ []) × (keepsStories (modelOf one) (modelOf two) ≡ false)
 
 pub computed : Computed
-unfolding _and_ _or_ _imp_ non allBelow anyBelow key sameId beforeId oddWords listedIn wordOf inSet covers overlap within isVehicle isGroup ecuIn scopeCode sameScope hasId hasIdD blankActive blankDefunct normal fits zeroId zeroSet zeroLock isBlankA isBlankD blanks inOrder neatL neatA neatD neat rule0 rule1 rule2 rule3 rule4 rule5 rule6 rule7 clash rule8 meetsNone rule9 brokenRule sound onSound onScope narrow coversDefunct walk holderOf isDone refuseIf andThen redirect other removeD superseded supersede toDefunct childOf inTree treeParts rootParts rootsParts checkList checkId checkScope checkParentActive checkParentVehicle checkParentOwner checkParentCover conflicts checkClear atLast checkRevision checkRoom missing checkActive checkCover checkHolder insertedIn judgeInsert closedInsert settledInsert insertActiveWith insertActiveOn nest adopt withoutTree deleteFound deleteOn orphan enteredOf replacedIn judgeReplace closedReplace settledReplace commitReplacementWith commitReplacementOn shedIn toldAcknowledge acknowledgedTo acknowledgeOn stepOn sameStory keepsStories unnamed afterAll
+unfolding _and_ _or_ _imp_ non allBelow anyBelow key sameId beforeId oddWords listedIn wordOf inSet covers overlap within isVehicle isGroup ecuIn scopeCode sameScope hasId hasIdD blankActive blankDefunct normal fits zeroId zeroSet zeroLock isBlankA isBlankD blanks inOrder neatL neatA neatD neat rule0 rule1 rule2 rule3 rule4 rule5 rule6 rule7 clash rule8 meetsNone rule9 brokenRule sound onSound onScope narrow coversDefunct walk holderOf isDone refuseIf andThen redirect other removeD superseded supersede toDefunct childOf inTree treeParts rootParts rootsParts checkList checkId checkScope checkParentActive checkParentVehicle checkParentOwner checkParentCover conflicts checkClear atLast checkRevision checkRoom missing checkActive checkCover checkHolder insertedIn judgeInsert closedInsert settledInsert insertActiveWith insertActiveOn nest adopt withoutTree deleteFound deleteOn orphan enteredOf replacedIn judgeReplace closedReplace settledReplace commitReplacementWith commitReplacementOn shedIn toldAcknowledge acknowledgedTo acknowledgeOn stepOn sameStory keepsStories unnamed
 computed =
     record {
       start = refl;

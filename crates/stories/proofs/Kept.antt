@@ -8,10 +8,10 @@ use mathlib.Core.Logic.{inl}
 use Prim.Native.Nat.{ℕ}
 use native.Mathlib.Omega.{arith}
 use native.Mathlib.Decide.{ℕ-discrete}
-use lib.Dec.{eqb, leb}
+use lib.Dec.{eqb}
 use borrow.Author.Tests.{eq-eqb, eqb-true, le-leb, leb-true}
-use Rattle.lists.specs.Tests.{_and_, Yes}
-use Rattle.lists.specs.Lists.{find, all, Mem, ascending}
+use Rattle.lists.specs.Tests.{Yes}
+use Rattle.lists.specs.Lists.{find, Mem, ascending}
 use Rattle.lists.proofs.Tests.{and-l, and-r, and-i}
 use Rattle.lists.proofs.Lists.{all→, →all, find→, find-miss, find-key}
 use Rattle.ids.specs.declared.LockId.{LockId}

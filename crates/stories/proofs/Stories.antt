@@ -3,18 +3,18 @@
 --     acknowledge-story, expire-story, delete-defunct-story       always
 --     insert-story, vehicle-story                                 where no remaining entry names the new id
 --     renew-story                                                 always
---     step-story, run-story                                       all of a feed's operations in one, and one after the other
+--     step-story                                                  all of these that a feed asks for in one
 -- Assumes nothing.
 use mathlib.Core.Path.{_≡_, refl, sym, ap, subst, _∙_}
-use mathlib.Core.Bool.{Bool, true, false}
-use mathlib.Core.List.{List, [], _∷_, map}
+use mathlib.Core.Bool.{Bool}
+use mathlib.Core.List.{List, map}
 use mathlib.Core.Option.{Option, none, some, Option·map}
 use Prim.Native.Nat.{ℕ, _+_}
 use lib.Dec.{eqb}
 use borrow.Author.Tests.{eq-eqb, ne-eqb}
-use Rattle.lists.specs.Tests.{_and_, non, Yes}
-use Rattle.lists.specs.Lists.{Mem, ascending, filter, insertBy}
-use Rattle.lists.proofs.Tests.{against, non-yes, and-l, and-r, cond-both}
+use Rattle.lists.specs.Tests.{Yes}
+use Rattle.lists.specs.Lists.{Mem, filter, insertBy}
+use Rattle.lists.proofs.Tests.{against, non-yes, cond-both}
 use Rattle.lists.proofs.Lists.{all→, find-map, find-insert}
 use Rattle.ids.specs.declared.LockId.{LockId}
 use Rattle.ids.specs.Order.{key}
@@ -23,14 +23,13 @@ use Rattle.state.specs.declared.ScopeKey.{ScopeKey}
 use Rattle.state.specs.declared.ActiveLock.{ActiveLock}
 use Rattle.state.specs.declared.DefunctLock.{DefunctLock}
 use Rattle.state.specs.declared.LockState.{LockState}
-use Rattle.state.specs.Locks.{akey, dkey, hasId, normal}
+use Rattle.state.specs.Locks.{akey, hasId, normal}
 use Rattle.state.specs.Model.{Model, modelOf, stateOf, full}
 use Rattle.state.proofs.Laws.{model-of-state}
 use Rattle.rules.specs.declared.Verdict.the-variants.{Sound}
 use Rattle.rules.specs.Rules.{brokenRule, findA}
 use Rattle.rules.proofs.Sound.{sound-of}
-use Rattle.lookups.proofs.Verdicts.{defuncts-ascend}
-use Rattle.operations.specs.Defuncts.{removeD, removeAll, superseded, supersede}
+use Rattle.operations.specs.Defuncts.{superseded, supersede}
 use Rattle.operations.specs.Trees.{isListed}
 use Rattle.operations.specs.Insert.{insertedIn, insertActiveOn}
 use Rattle.operations.specs.Vehicle.{nest, adopt, vehicleIn, insertVehicleOn}
@@ -42,11 +41,10 @@ use Rattle.promises.proofs.Core.{Core, stands-of}
 use Rattle.promises.proofs.Going.{Shrinks, removeD-shrinks, removeAll-shrinks, supersede-shrinks}
 use Rattle.promises.proofs.Keeping.{made, core-shed}
 use Rattle.promises.proofs.Closing.{insert-active-comes, insert-vehicle-comes, renew-comes, acknowledge-comes, expire-defunct-comes}
-use Rattle.promises.proofs.Again.{accepted-again}
 use Rattle.promises.proofs.Dropping.{drop-comes}
-use Rattle.stories.specs.Stories.{keepsStories, unnamed, stated, statedAll, afterAll}
+use Rattle.stories.specs.Stories.{keepsStories, StoriesKept, unnamed, stated}
 use Rattle.stories.proofs.Ways.{heldAt}
-use Rattle.stories.proofs.Kept.{Keeps, keeps→, →keeps, keeps-refl, keeps-trans, active-keeps, remove-keeps, remove-all-keeps}
+use Rattle.stories.proofs.Kept.{Keeps, →keeps, keeps-refl, keeps-trans, active-keeps, remove-keeps, remove-all-keeps}
 
 -- ---- the locks that hold, after each of them is changed in parts that nobody asks for here
 map-held : (g : ActiveLock → ActiveLock) → ((a : ActiveLock) → (akey (g a) ≡ akey a) × (g a .lock .subject ≡ a .lock .subject)) → (l : List ActiveLock) (k : ℕ) → heldAt (map g l) k ≡ heldAt l k
@@ -74,32 +72,29 @@ module _ (s : LockState) (e : brokenRule s ≡ Sound) where
   core : Core (modelOf s)
   core = stands-of full (modelOf s) (sound-of s e) .core
 
-  abbrev Tells : LockState → Type 0
-  Tells t = Yes (keepsStories (modelOf s) (modelOf t))
-
   -- a refusal that leaves the state, and lists that keep the stories
-  pub stays : Tells s
+  pub stays : StoriesKept s s
   stays = →keeps (modelOf s) (modelOf s) (core .orderD) (keeps-refl (modelOf s))
 
-  becomes : (n : Model) → Shrinks (modelOf s .defunct) (n .defunct) → Keeps (modelOf s) n → Tells (stateOf n)
+  becomes : (n : Model) → Shrinks (modelOf s .defunct) (n .defunct) → Keeps (modelOf s) n → StoriesKept s (stateOf n)
   becomes n g f = subst (λ (x : Model). Yes (keepsStories (modelOf s) x)) (sym (model-of-state n)) (→keeps (modelOf s) n (g .order (core .orderD)) f)
 
   -- ---- "acknowledgement and defunct expiry, the last-revision refusal included"
-  pub acknowledge-story : (i : LockId) → Tells (acknowledgeOn s i .state)
+  pub acknowledge-story : (i : LockId) → StoriesKept s (acknowledgeOn s i .state)
   unfolding shedIn
   acknowledge-story i =
-      acknowledge-comes (λ r. Tells (r .state)) s i (λ b. stays)
+      acknowledge-comes (λ r. StoriesKept s (r .state)) s i (λ b. stays)
       (λ b g. becomes _ (removeD-shrinks i (modelOf s .defunct)) (remove-keeps (modelOf s) core _ i))
 
-  pub expire-story : (now : ℕ) → Tells (expireDefunctOn s now .state)
+  pub expire-story : (now : ℕ) → StoriesKept s (expireDefunctOn s now .state)
   unfolding shedIn
   expire-story now =
-      expire-defunct-comes (λ r. Tells (r .state)) s now (λ b. stays)
+      expire-defunct-comes (λ r. StoriesKept s (r .state)) s now (λ b. stays)
       (λ b l g. becomes _ (removeAll-shrinks (lapsedOf now (modelOf s)) (modelOf s .defunct)) (remove-all-keeps (lapsedOf now (modelOf s)) (modelOf s) core _))
 
   -- delete_defunct goes "as acknowledgement"
-  pub delete-defunct-story : (i : LockId) (k : ScopeKey) (subject : ℕ) → Tells (deleteDefunctOn s i k subject .state)
-  delete-defunct-story i k subject = drop-comes (λ r. Tells (r .state)) s i k subject (λ n. stays) stays stays (acknowledge-story i)
+  pub delete-defunct-story : (i : LockId) (k : ScopeKey) (subject : ℕ) → StoriesKept s (deleteDefunctOn s i k subject .state)
+  delete-defunct-story i k subject = drop-comes (λ r. StoriesKept s (r .state)) s i k subject (λ n. stays) stays stays (acknowledge-story i)
 
   -- ---- "For insertion it is stated only where, after it, no remaining entry names the new id as its replacement"
   unnamed→ : (y : ActiveLock) (n : Model) → Yes (unnamed (y .lock .id) n) → (d : DefunctLock) → Mem d (n .defunct) → key (d .target) ≡ akey (normal y) → ⊥
@@ -107,7 +102,7 @@ module _ (s : LockState) (e : brokenRule s ≡ Sound) where
   unnamed→ y n t d u q = against (non-yes _ (all→ _ t u)) (eq-eqb _ _ q)
 
   abbrev Put : ActiveLock → LockState → Type 0
-  Put y t = Yes (unnamed (y .lock .id) (modelOf t)) → Tells t
+  Put y t = Yes (unnamed (y .lock .id) (modelOf t)) → StoriesKept s t
 
   put-becomes : (y : ActiveLock) (l : List ActiveLock) (r : ℕ) → ((k : ℕ) → heldAt l k ≡ heldAt (modelOf s .active) k)
       → Put y (stateOf (made r (insertBy akey (normal y) l) (supersede (normal y) (modelOf s .defunct))))
@@ -116,7 +111,7 @@ module _ (s : LockState) (e : brokenRule s ≡ Sound) where
       becomes n (supersede-shrinks (normal y) (modelOf s .defunct))
       (put-keeps (modelOf s) core (normal y) l r like (unnamed→ y n (subst (λ (x : Model). Yes (unnamed (y .lock .id) x)) (model-of-state n) t)))
 
-  pub insert-story : (y : ActiveLock) → Put y (insertActiveOn s y .state)
+  pub insert-story : (y : ActiveLock) → Yes (unnamed (y .lock .id) (modelOf (insertActiveOn s y .state))) → StoriesKept s (insertActiveOn s y .state)
   unfolding insertedIn
   insert-story y = insert-active-comes (λ r. Put y (r .state)) s y (λ b n t. stays) (λ d g. put-becomes y (modelOf s .active) (s .revision + 1) (λ k. refl))
 
@@ -124,7 +119,7 @@ module _ (s : LockState) (e : brokenRule s ≡ Sound) where
   unfolding adopt nest
   adopt-like y ws a = cond-both (λ (b : ActiveLock). b .lock ≡ a .lock) _ a (isListed ws a) (λ t. refl) (λ t. refl)
 
-  pub vehicle-story : (y : ActiveLock) (ws : List ℕ) → Put y (insertVehicleOn s y ws .state)
+  pub vehicle-story : (y : ActiveLock) (ws : List ℕ) → Yes (unnamed (y .lock .id) (modelOf (insertVehicleOn s y ws .state))) → StoriesKept s (insertVehicleOn s y ws .state)
   unfolding vehicleIn insertedIn
   vehicle-story y ws =
       insert-vehicle-comes (λ r. Put y (r .state)) s y ws (λ b n t. stays)
@@ -136,15 +131,15 @@ module _ (s : LockState) (e : brokenRule s ≡ Sound) where
   unfolding extendAt extended
   extend-like i t has d a = cond-both (λ (b : ActiveLock). (akey b ≡ akey a) × (b .lock .subject ≡ a .lock .subject)) _ a (hasId i a) (λ u. (refl, refl)) (λ u. (refl, refl))
 
-  pub renew-story : (i : LockId) (t now : ℕ) (has : Bool) (d : ℕ) → Tells (renewOn s i t now has d .state)
+  pub renew-story : (i : LockId) (t now : ℕ) (has : Bool) (d : ℕ) → StoriesKept s (renewOn s i t now has d .state)
   unfolding renewedIn
   renew-story i t now has d =
-      renew-comes (λ r. Tells (r .state)) s i t now has d (λ b. stays)
+      renew-comes (λ r. StoriesKept s (r .state)) s i t now has d (λ b. stays)
       (λ q g. subst (λ (x : Model). Yes (keepsStories (modelOf s) x)) (sym (model-of-state _)) (→keeps (modelOf s) _ (core .orderD)
       (active-keeps (modelOf s) core (s .revision + 1) (map (extendAt i t has d) (modelOf s .active)) (λ k. Unit) (λ k p. map-held (extendAt i t has d) (extend-like i t has d) (modelOf s .active) k) (λ d u. tt))))
 
   -- ---- any operation that it is stated of
-  pub step-story : (o : Op) → Yes (stated o (modelOf (stepOn s o))) → Tells (stepOn s o)
+  pub step-story : (o : Op) → Yes (stated o (modelOf (stepOn s o))) → StoriesKept s (stepOn s o)
   unfolding stepOn stated
   step-story (insertActive y) t = insert-story y t
   step-story (insertVehicle y ws) t = vehicle-story y ws t
@@ -154,18 +149,3 @@ module _ (s : LockState) (e : brokenRule s ≡ Sound) where
   step-story (commitReplacement ws y by at) t = absurd (against refl t)
   step-story (acknowledge i) t = acknowledge-story i
   step-story (expireDefunct now) t = expire-story now
-
--- ---- one after the other
-run-keeps : (os : List Op) (s : LockState) → brokenRule s ≡ Sound → Yes (statedAll s os) → Keeps (modelOf s) (modelOf (afterAll s os))
-unfolding statedAll afterAll
-run-keeps [] s e t = keeps-refl (modelOf s)
-run-keeps (o ∷ os) s e t =
-    keeps-trans (modelOf s) (modelOf (stepOn s o)) _ (keeps→ _ _ (step-story s e o (and-l _ _ t))) (run-keeps os (stepOn s o) (accepted-again s e o) (and-r _ _ t))
-
-pub run-accepted : (os : List Op) (s : LockState) → brokenRule s ≡ Sound → brokenRule (afterAll s os) ≡ Sound
-unfolding afterAll
-run-accepted [] s e = e
-run-accepted (o ∷ os) s e = run-accepted os (stepOn s o) (accepted-again s e o)
-
-pub run-story : (s : LockState) → brokenRule s ≡ Sound → (os : List Op) → Yes (statedAll s os) → Yes (keepsStories (modelOf s) (modelOf (afterAll s os)))
-run-story s e os t = →keeps (modelOf s) (modelOf (afterAll s os)) (defuncts-ascend (afterAll s os) (run-accepted os s e)) (run-keeps os s e t)

@@ -10,10 +10,9 @@ use mathlib.Core.Option.{Option, none, some, Option·map, Option·none-ne-some, 
 use Prim.Native.Nat.{ℕ, _≤_}
 use native.Mathlib.Omega.{arith}
 use native.Mathlib.Decide.{ℕ-discrete}
-use lib.Dec.{eqb}
 use lib.ListN.{length}
 use borrow.Author.Tests.{eq-eqb, le-leb}
-use Rattle.lists.specs.Tests.{_and_, Yes}
+use Rattle.lists.specs.Tests.{Yes}
 use Rattle.lists.specs.Lists.{Mem}
 use Rattle.lists.proofs.Tests.{and-i}
 use Rattle.lists.proofs.Lists.{find→}
@@ -24,9 +23,8 @@ use Rattle.state.specs.Locks.{dkey}
 use Rattle.state.specs.Model.{Model}
 use Rattle.rules.specs.Rules.{findA, findD, rule9}
 use Rattle.lookups.specs.Reads.{Follows, holds, leads, passes, holderOf}
-use Rattle.lookups.proofs.Follow.{Way, holder-follows, holder-exact}
+use Rattle.lookups.proofs.Follow.{holder-follows, holder-exact}
 use Rattle.operations.specs.Defuncts.{redirect, dropEntry}
-use Rattle.operations.specs.Code.{tookOver}
 use Rattle.operations.proofs.Leaving.{redirect-yes}
 use Rattle.promises.proofs.Going.{redirect-miss, drop-kept, drop-out}
 use Rattle.promises.proofs.Keeping.{made}

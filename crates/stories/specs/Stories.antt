@@ -2,11 +2,9 @@
 -- holds now, through how many entries. All of it tests, run on examples in proofs/Examples.antt. Assumes nothing.
 --     before, after   the lists before and after an operation
 use mathlib.Core.Bool.{Bool, true, false}
-use mathlib.Core.List.{List, [], _∷_}
 use mathlib.Core.Option.{Option, none, some}
-use Prim.Native.Nat.{ℕ}
 use lib.Dec.{eqb, leb}
-use Rattle.lists.specs.Tests.{_and_, non}
+use Rattle.lists.specs.Tests.{_and_, non, Yes}
 use Rattle.lists.specs.Lists.{all}
 use Rattle.ids.specs.declared.LockId.{LockId}
 use Rattle.ids.specs.Order.{key}
@@ -16,7 +14,7 @@ use Rattle.state.specs.Locks.{dkey}
 use Rattle.state.specs.Model.{Model, modelOf}
 use Rattle.rules.specs.Rules.{findD}
 use Rattle.lookups.specs.Reads.{Held, holderOf}
-use Rattle.promises.specs.Steps.{Op, insertActive, insertVehicle, renew, delete, beginExpiration, commitReplacement, acknowledge, expireDefunct, stepOn}
+use Rattle.promises.specs.Steps.{Op, insertActive, insertVehicle, renew, delete, beginExpiration, commitReplacement, acknowledge, expireDefunct}
 
 -- ---- "the same current holder as before. The number of entries passed may only fall."
 unfoldable pub sameStory : Held → Held → Bool
@@ -30,6 +28,9 @@ storyOf before after entry (some was) = sameStory (holderOf before was) (holderO
 
 unfoldable pub keepsStories : Model → Model → Bool
 keepsStories before after = all (λ entry. storyOf before after entry (findD (before .defunct) (dkey entry))) (after .defunct)
+
+abbrev pub StoriesKept : LockState → LockState → Type 0
+StoriesKept before after = Yes (keepsStories (modelOf before) (modelOf after))
 
 -- ---- "no remaining entry names the new id as its replacement"
 unfoldable pub unnamed : LockId → Model → Bool
@@ -47,12 +48,3 @@ stated (beginExpiration id now) after = false
 stated (commitReplacement ids lock by at) after = false
 stated (acknowledge id) after = true
 stated (expireDefunct now) after = true
-
--- ---- one operation after another, each of them one that it is stated of
-unfoldable pub statedAll : LockState → List Op → Bool
-statedAll state [] = true
-statedAll state (o ∷ os) = stated o (modelOf (stepOn state o)) and statedAll (stepOn state o) os
-
-unfoldable pub afterAll : LockState → List Op → LockState
-afterAll state [] = state
-afterAll state (o ∷ os) = afterAll (stepOn state o) os
