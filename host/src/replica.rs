@@ -472,7 +472,9 @@ impl Replica {
         self.ask_defunct(question::UNCOVERED_DEFUNCT, now, 0, &meant.encode())
     }
 
-    /// Who holds what a defunct lock, in the state or not, was replaced by in the end.
+    /// Who holds what a defunct lock, in the state or not, was replaced by in the end. Look the lock
+    /// up again before asking again: while others are cleared its holder stays, but a copy from
+    /// before may name one that is gone.
     #[must_use]
     pub fn current_holder(&self, defunct: &Defunct) -> Holder {
         let told = self.ask(question::CURRENT_HOLDER, 0, 0, &defunct.encode(), &mut []);
