@@ -103,13 +103,12 @@ module _ (m : Model) (c : Core m) (r : ℕ) where
       self q = no-ring (m .defunct) e e (ap (findD (m .defunct)) q ∙ at) (ap (findD (m .defunct)) q ∙ at) (c .ends (key (e .target))) (inl refl)
 
 -- ---- the active locks become l, which hold at every entry's target what those before held
-module _ (m : Model) (c : Core m) (r : ℕ) (l : List ActiveLock) (P : ℕ → Type 0) where
-  pub active-keeps : ((k : ℕ) → P k → heldAt l k ≡ heldAt (m .active) k) → ((d : DefunctLock) → Mem d (m .defunct) → P (key (d .target))) → Keeps m (made r l (m .defunct))
-  active-keeps like next k e f = (e, f, active-story m r l P like next (nine m c) e (find→ _ (m .defunct) f .0))
+pub active-keeps : (m : Model) → Core m → (r : ℕ) (l : List ActiveLock) → ((d : DefunctLock) → Mem d (m .defunct) → heldAt l (key (d .target)) ≡ heldAt (m .active) (key (d .target))) → Keeps m (made r l (m .defunct))
+active-keeps m c r l like k e f = (e, f, active-story m r l like (nine m c) e (find→ _ (m .defunct) f .0))
 
 -- another revision
-pub revision-keeps : (m : Model) → Core m → (r : ℕ) → Keeps m (made r (m .active) (m .defunct))
-revision-keeps m c r = active-keeps m c r (m .active) (λ k. Unit) (λ k p. refl) (λ d u. tt)
+revision-keeps : (m : Model) → Core m → (r : ℕ) → Keeps m (made r (m .active) (m .defunct))
+revision-keeps m c r = active-keeps m c r (m .active) (λ d u. refl)
 
 -- ---- an entry by its id, and a list of them
 pub remove-keeps : (m : Model) → Core m → (r : ℕ) (i : LockId) → Keeps m (made r (m .active) (removeD i (m .defunct)))

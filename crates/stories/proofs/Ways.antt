@@ -1,6 +1,6 @@
 -- What can be followed from an id (Follows), after a change of the state.
 --     past        an entry goes: who is followed past it comes to the same holder, through no more entries
---     along       active locks change, and at every id on the way the same subject holds: the way is the same
+--     along       active locks change, and at every entry's target the same subject holds: the way is the same
 --     same-by     ways that come to one holder, the later no longer, are the same story
 -- Assumes nothing.
 use mathlib.Core.Path.{_≡_, refl, sym, ap, subst, _∙_}
@@ -82,30 +82,28 @@ module _ (m : Model) (r : ℕ) (e : DefunctLock) (at : findD (m .defunct) (dkey 
 
 -- ---- the active locks become l
 -- who holds at the id k, where someone does
+abbrev pub subjectIn : Option ActiveLock → Option ℕ
+subjectIn none = none
+subjectIn (some a) = some (a .lock .subject)
+
 abbrev pub heldAt : List ActiveLock → ℕ → Option ℕ
-heldAt l k = Option·map (λ (a : ActiveLock). a .lock .subject) (findA l k)
+heldAt l k = subjectIn (findA l k)
 
-like-none : (l m : List ActiveLock) (k : ℕ) → heldAt l k ≡ heldAt m k → findA m k ≡ none → findA l k ≡ none
-like-none l m k q e = go (findA l k) refl
-  where
-    go : (o : Option ActiveLock) → findA l k ≡ o → findA l k ≡ none
-    go none f = f
-    go (some b) f = absurd (Option·some-ne-none (b .lock .subject) (sym (ap (Option·map (λ (a : ActiveLock). a .lock .subject)) f) ∙ q ∙ ap (Option·map (λ (a : ActiveLock). a .lock .subject)) e))
+like-none : (o p : Option ActiveLock) → subjectIn o ≡ subjectIn p → p ≡ none → o ≡ none
+like-none none p q e = refl
+like-none (some b) p q e = absurd (Option·some-ne-none (b .lock .subject) (q ∙ ap subjectIn e))
 
-like-some : (l m : List ActiveLock) (k : ℕ) (a : ActiveLock) → heldAt l k ≡ heldAt m k → findA m k ≡ some a → (b : ActiveLock) × (findA l k ≡ some b) × (b .lock .subject ≡ a .lock .subject)
-like-some l m k a q e = go (findA l k) refl
-  where
-    go : (o : Option ActiveLock) → findA l k ≡ o → (b : ActiveLock) × (findA l k ≡ some b) × (b .lock .subject ≡ a .lock .subject)
-    go none f = absurd (Option·none-ne-some (a .lock .subject) (sym (ap (Option·map (λ (x : ActiveLock). x .lock .subject)) f) ∙ q ∙ ap (Option·map (λ (x : ActiveLock). x .lock .subject)) e))
-    go (some b) f = (b, f, Option·some-injective _ _ (sym (ap (Option·map (λ (x : ActiveLock). x .lock .subject)) f) ∙ q ∙ ap (Option·map (λ (x : ActiveLock). x .lock .subject)) e))
+like-some : (o p : Option ActiveLock) (a : ActiveLock) → subjectIn o ≡ subjectIn p → p ≡ some a → (b : ActiveLock) × (o ≡ some b) × (b .lock .subject ≡ a .lock .subject)
+like-some none p a q e = absurd (Option·none-ne-some (a .lock .subject) (q ∙ ap subjectIn e))
+like-some (some b) p a q e = (b, refl, Option·some-injective _ _ (q ∙ ap subjectIn e))
 
--- every id on the way passes the test P, which every entry's target does, and at such an id the same subject holds
-module _ (m : Model) (r : ℕ) (l : List ActiveLock) (P : ℕ → Type 0) (like : (k : ℕ) → P k → heldAt l k ≡ heldAt (m .active) k) (next : (d : DefunctLock) → Mem d (m .defunct) → P (key (d .target))) where
-  along : {k h u : ℕ} {ds : List DefunctLock} → Follows m k h ds u → P k → Follows (made r l (m .defunct)) k h ds u
-  along {k} (holds {a = a} f s) p = let w = like-some l (m .active) k a (like k p) f in holds (w .1) (s ∙ sym (w .2))
-  along {k} (leads f g s) p = leads (like-none l (m .active) k (like k p) f) g s
-  along {k} (passes {d = d} f g w) p = passes (like-none l (m .active) k (like k p) f) g (along w (next d (find→ _ (m .defunct) g .0)))
+-- at every entry's target the same subject holds, so the way is the same
+module _ (m : Model) (r : ℕ) (l : List ActiveLock) (like : (d : DefunctLock) → Mem d (m .defunct) → heldAt l (key (d .target)) ≡ heldAt (m .active) (key (d .target))) where
+  along : {k h u : ℕ} {ds : List DefunctLock} → Follows m k h ds u → heldAt l k ≡ heldAt (m .active) k → Follows (made r l (m .defunct)) k h ds u
+  along (holds {a = a} f s) q = let w = like-some _ _ a q f in holds (w .1) (s ∙ sym (w .2))
+  along (leads f g s) q = leads (like-none _ _ q f) g s
+  along (passes {d = d} f g w) q = passes (like-none _ _ q f) g (along w (like d (find→ _ (m .defunct) g .0)))
 
   pub active-story : rule9 m ≡ true → (d : DefunctLock) → Mem d (m .defunct) → Yes (sameStory (holderOf m d) (holderOf (made r l (m .defunct)) d))
   unfolding rule9
-  active-story p d u = same-by m (made r l (m .defunct)) p p d d (λ ds v f. (ds, along f (next d u), omega arith))
+  active-story p d u = same-by m (made r l (m .defunct)) p p d d (λ ds v f. (ds, along f (like d u), omega arith))
