@@ -20,14 +20,15 @@ use Rattle.lookups.specs.declared.FoundDefunct.the-variants as defunct
 use Rattle.lookups.specs.declared.Holder.the-variants as holder
 use Rattle.lookups.specs.Reads.{toldD, defunctByIdOn, holderOf, currentHolderOn}
 use Rattle.lookups.proofs.Verdicts.{on-sound}
+use Rattle.operations.specs.Acknowledge.{acknowledgeOn, expireDefunctOn}
 use Rattle.locks.specs.Locks.{deleteDefunctOn}
 use Rattle.promises.specs.Steps.{Op, stepOn}
-use Rattle.promises.proofs.Again.{accepted-again}
+use Rattle.promises.proofs.Again.{accepted-again, acknowledge-accepted, expire-defunct-accepted}
 use Rattle.promises.proofs.Dropping.{delete-defunct-accepted}
 use Rattle.stories.specs.Stories.{sameStory, StoriesKept, stated}
 use Rattle.stories.specs.Again.{ToldTheSame}
 use Rattle.stories.proofs.Kept.{keeps→}
-use Rattle.stories.proofs.Stories.{step-story, delete-defunct-story}
+use Rattle.stories.proofs.Stories.{acknowledge-story, expire-story, delete-defunct-story, step-story}
 
 -- ---- the two reads on a sound state
 abbrev found : FoundDefunct → Option DefunctLock
@@ -58,17 +59,23 @@ told-the-same s t e f k i d q =
       was = w .0;
       subject = holderOf (modelOf s) (w .0) .subject;
       links = holderOf (modelOf s) (w .0) .links;
-      fewer = holderOf (modelOf t) d .links;
+      linksAgain = holderOf (modelOf t) d .links;
       found = by-id s e i ∙ ap toldD (w .1);
       told = holder-told s e (w .0);
       again = holder-told t f d ∙ ap (λ (n : ℕ). holder.Held n (holderOf (modelOf t) d .links)) (eqb-true _ _ (and-l _ _ (w .2)));
       fall = leb-true _ _ (and-r _ _ (w .2));
     }
 
--- ---- after any operation that it is stated of, and after delete_defunct
+-- ---- after what 02 names, after delete_defunct, and after any operation that it is stated of
 module _ (s : LockState) (e : brokenRule s ≡ Sound) where
-  pub step-told : (o : Op) → Yes (stated o (modelOf (stepOn s o))) → ToldTheSame s (stepOn s o)
-  step-told o t = told-the-same s (stepOn s o) e (accepted-again s e o) (step-story s e o t)
+  pub acknowledge-told : (i : LockId) → ToldTheSame s (acknowledgeOn s i .state)
+  acknowledge-told i = told-the-same s _ e (acknowledge-accepted s e i _ refl) (acknowledge-story s e i)
+
+  pub expire-told : (now : ℕ) → ToldTheSame s (expireDefunctOn s now .state)
+  expire-told now = told-the-same s _ e (expire-defunct-accepted s e now _ refl) (expire-story s e now)
 
   pub delete-defunct-told : (i : LockId) (k : ScopeKey) (subject : ℕ) → ToldTheSame s (deleteDefunctOn s i k subject .state)
   delete-defunct-told i k subject = told-the-same s _ e (delete-defunct-accepted s e i k subject _ refl) (delete-defunct-story s e i k subject)
+
+  pub step-told : (o : Op) → Yes (stated o (modelOf (stepOn s o))) → ToldTheSame s (stepOn s o)
+  step-told o t = told-the-same s (stepOn s o) e (accepted-again s e o) (step-story s e o t)

@@ -1,10 +1,12 @@
 -- C-20 over whatever is done to a running spare, one after the other: who looks an entry up at the end is told the holder that
 -- was told at the start, through no more entries. Assumes nothing.
-use mathlib.Core.Path.{_≡_, sym, subst}
+use mathlib.Core.Path.{_≡_, refl, sym, subst}
+use mathlib.Core.Bool.{Bool, true, false, cond}
 use mathlib.Core.List.{List, [], _∷_}
-use Prim.Native.Nat.{ℕ}
+use Prim.Native.Nat.{ℕ, zero, suc}
+use borrow.Author.Tests.{eq-eqb}
 use Rattle.lists.specs.Tests.{Yes}
-use Rattle.lists.proofs.Tests.{and-l, and-r}
+use Rattle.lists.proofs.Tests.{and-l, and-r, imp-e}
 use Rattle.state.specs.declared.LockState.{LockState}
 use Rattle.state.specs.Model.{modelOf}
 use Rattle.rules.specs.declared.Verdict.the-variants.{Sound}
@@ -18,12 +20,13 @@ use Rattle.feed.specs.declared.events.Step.{Step}
 use Rattle.feed.specs.declared.taking.Taken.{Taken}
 use Rattle.feed.specs.declared.taking.Taken.the-variants as taken
 use Rattle.feed.specs.Feed.{numbered, bodyIn, takenAt, actOn, takenOn, stepOn}
+use Rattle.feed.specs.Runs.{stops, runOn}
 use Rattle.feed.proofs.Turning.{turn-comes, step-sound}
 use Rattle.takeover.specs.Deeds.{Deed, operation, deleteDefunct, feeding, deedOn}
 use Rattle.takeover.proofs.Keeping.{perform-state}
 use Rattle.takeover.proofs.Deeds.{deed-keeps}
 use Rattle.stories.specs.Stories.{StoriesKept, stated}
-use Rattle.stories.specs.Deeds.{takenStated, deedStated, deedsStated, afterDeeds}
+use Rattle.stories.specs.Deeds.{takenStated, deedStated, deedsStated, afterDeeds, runDeeds}
 use Rattle.stories.specs.Again.{ToldTheSame}
 use Rattle.stories.proofs.Kept.{Keeps, keeps→, →keeps, keeps-refl, keeps-trans}
 use Rattle.stories.proofs.Stories.{stays, step-story, delete-defunct-story}
@@ -33,10 +36,10 @@ use Rattle.stories.proofs.Again.{told-the-same}
 pub perform-story : (s : LockState) → brokenRule s ≡ Sound → (r : Request) (ws : List ℕ) → Yes (stated (opOf r ws) (modelOf (performOn s r ws .state))) → StoriesKept s (performOn s r ws .state)
 perform-story s e r ws = subst (λ (t : LockState). Yes (stated (opOf r ws) (modelOf t)) → StoriesKept s t) (sym (perform-state s r ws)) (step-story s e (opOf r ws))
 
--- ---- a record of a feed, in turn or not
+-- ---- a record of a feed: in turn, what it asks for; else nothing changes
 module _ (sp : Spare) (e : brokenRule (sp .state) ≡ Sound) (f : List ℕ) (at : ℕ) where
   abbrev Tells : Taken → Step → Type 0
-  Tells t z = Yes (takenStated f t (modelOf (z .spare .state))) → StoriesKept (sp .state) (z .spare .state)
+  Tells t z = Yes (takenStated sp f t (modelOf (z .spare .state))) → StoriesKept (sp .state) (z .spare .state)
 
   taken-story : (t : Taken) → Tells t (takenOn sp f at t)
   unfolding actOn
@@ -45,13 +48,13 @@ module _ (sp : Spare) (e : brokenRule (sp .state) ≡ Sound) (f : List ℕ) (at 
   taken-story (taken.BadField x) = λ y. stays (sp .state) e
   taken-story (taken.Record p) =
       let x = numbered p (bodyIn f (p .frame)) in
-      turn-comes sp (p .frame .next) x (Tells (taken.Record p)) (λ d. perform-story (sp .state) e (x .request) (x .list)) (λ v g y. stays (sp .state) e)
+      turn-comes sp (p .frame .next) x (Tells (taken.Record p)) (λ d y. perform-story (sp .state) e (x .request) (x .list) (imp-e _ _ y (eq-eqb _ _ d))) (λ v g y. stays (sp .state) e)
 
   pub feed-story : Tells (takenAt f at) (stepOn sp f at)
   feed-story = subst (Tells (takenAt f at)) (sym (step-sound sp f at e)) (taken-story (takenAt f at))
 
 -- ---- one deed, and any number of them
-pub deed-story : (sp : Spare) → brokenRule (sp .state) ≡ Sound → (d : Deed) → Yes (deedStated d (modelOf (deedOn sp d .state))) → StoriesKept (sp .state) (deedOn sp d .state)
+pub deed-story : (sp : Spare) → brokenRule (sp .state) ≡ Sound → (d : Deed) → Yes (deedStated sp d (modelOf (deedOn sp d .state))) → StoriesKept (sp .state) (deedOn sp d .state)
 unfolding deedOn deedStated
 deed-story sp e (operation o) = step-story (sp .state) e o
 deed-story sp e (deleteDefunct i k subject) = λ t. delete-defunct-story (sp .state) e i k subject
@@ -67,5 +70,19 @@ deeds-keep (d ∷ ds) sp e t =
 pub deeds-story : (sp : Spare) → brokenRule (sp .state) ≡ Sound → (ds : List Deed) → Yes (deedsStated sp ds) → StoriesKept (sp .state) (afterDeeds sp ds .state)
 deeds-story sp e ds t = let w = deeds-keep ds sp e t in →keeps (modelOf (sp .state)) (modelOf (afterDeeds sp ds .state)) (defuncts-ascend (afterDeeds sp ds .state) (w .1)) (w .0)
 
+-- in the words of the reads
 pub deeds-told : (sp : Spare) → brokenRule (sp .state) ≡ Sound → (ds : List Deed) → Yes (deedsStated sp ds) → ToldTheSame (sp .state) (afterDeeds sp ds .state)
 deeds-told sp e ds t = told-the-same (sp .state) (afterDeeds sp ds .state) e (deeds-keep ds sp e t .1) (deeds-story sp e ds t)
+
+pub deed-told : (sp : Spare) → brokenRule (sp .state) ≡ Sound → (d : Deed) → Yes (deedStated sp d (modelOf (deedOn sp d .state))) → ToldTheSame (sp .state) (deedOn sp d .state)
+deed-told sp e d t = told-the-same (sp .state) (deedOn sp d .state) e (deed-keeps sp e d) (deed-story sp e d t)
+
+-- ---- a run over a feed is such a list
+pub run-deeds : (k : ℕ) (sp : Spare) (f : List ℕ) (at : ℕ) → afterDeeds sp (runDeeds k sp f at) ≡ runOn k sp f at
+unfolding afterDeeds runDeeds runOn deedOn
+run-deeds zero sp f at = refl
+run-deeds (suc k) sp f at = go (stops (stepOn sp f at .told .event)) _ (run-deeds k (stepOn sp f at .spare) f (stepOn sp f at .told .next))
+  where
+    go : (b : Bool) (ds : List Deed) {z : Spare} → afterDeeds (stepOn sp f at .spare) ds ≡ z → afterDeeds sp (cond b [] (feeding f at ∷ ds)) ≡ cond b sp z
+    go true ds q = refl
+    go false ds q = q

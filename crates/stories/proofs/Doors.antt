@@ -4,7 +4,7 @@ use mathlib.Core.Path.{_≡_, sym, ap, subst, _∙_}
 use mathlib.Core.List.{List}
 use Prim.Native.Nat.{ℕ}
 use native.Mathlib.Omega.{arith}
-use lib.ListN.{take}
+use lib.ListN.{length, take}
 use Rattle.lists.specs.Tests.{Yes}
 use Rattle.state.specs.Model.{modelOf}
 use Rattle.locks.specs.Locks.{deleteDefunctOn}
@@ -13,38 +13,60 @@ use Rattle.records.proofs.Numbers.{Bytes}
 use Rattle.image.specs.declared.Spare.{Spare}
 use Rattle.image.specs.declared.Imaged.{Imaged}
 use Rattle.image.proofs.Trips.{accepted}
-use Rattle.feed.specs.Feed.{takenAt, stepOn}
-use Rattle.takeover.proofs.Keeping.{step-keeps}
+use Rattle.feed.specs.Feed.{stepOn}
+use Rattle.feed.specs.Runs.{runOn}
+use Rattle.takeover.specs.Deeds.{feeding, deedOn}
 use Rattle.cablegorse.specs.Changes.{Changed, applyOf, Left, deleteOf}
+use Rattle.cablegorse.specs.Chunks.{Chunked, followOf}
 use Rattle.doors.specs.Reads.{reads}
-use Rattle.doors.proofs.Doors.{Door, kept, unreached, wrote, apply-door, delete-door}
 use Rattle.doors.proofs.Doors as doors
-use Rattle.stories.specs.Deeds.{takenStated}
+use Rattle.stories.specs.Deeds.{deedStated, deedsStated, runDeeds}
 use Rattle.stories.specs.Again.{ToldTheSame}
-use Rattle.stories.proofs.Again.{told-the-same, delete-defunct-told}
-use Rattle.stories.proofs.Deeds.{feed-story}
+use Rattle.stories.proofs.Again.{delete-defunct-told}
+use Rattle.stories.proofs.Deeds.{deed-told, deeds-told, run-deeds}
 
 one-spare : (s : List ℕ) (a b : Spare) → reads s a → reads s b → a ≡ b
 one-spare s a b e g = ap (λ (i : Imaged). i .spare) (sym e ∙ g)
 
--- ---- cablegorse_apply, where the record was applied
-module _ (s f : List ℕ) (ys : Bytes s) (yf : Bytes f) (at : ℕ) (n m x : List ℕ) (old new : Spare) (e : reads s old) where
-  abbrev c : Changed
-  c = applyOf s f at n m x
+module _ (s f : List ℕ) (ys : Bytes s) (yf : Bytes f) (old new : Spare) (e : reads s old) where
+  -- ---- cablegorse_apply, where the record was applied
+  module _ (at : ℕ) (n m x : List ℕ) where
+    abbrev c : Changed
+    c = applyOf s f at n m x
 
-  pub apply-told : c .told .part ≡ 2 → reads (take (c .told .written) (c .next)) new → Yes (takenStated f (takenAt f at) (modelOf (new .state))) → ToldTheSame (old .state) (new .state)
-  apply-told part g = go (apply-door s f ys yf at n m x)
-    where
-      stepped : Yes (takenStated f (takenAt f at) (modelOf (stepOn old f at .spare .state))) → ToldTheSame (old .state) (stepOn old f at .spare .state)
-      stepped t = let q = accepted s old e .sound in told-the-same (old .state) (stepOn old f at .spare .state) q (step-keeps old f at q) (feed-story old q f at t)
+    abbrev Told : Spare → Type 0
+    Told z = Yes (deedStated old (feeding f at) (modelOf (z .state))) → ToldTheSame (old .state) (z .state)
 
-      go : Door s f at n m x c → Yes (takenStated f (takenAt f at) (modelOf (new .state))) → ToldTheSame (old .state) (new .state)
-      go (kept a b d h i) = absurd (b part)
-      go (unreached z ez q d h i a b k) = absurd (omega (arith, part, q))
-      go (wrote z ez q nz back a d) =
-          let o = one-spare s z old ez e in
-          let same = one-spare _ _ new (subst (λ (w : Spare). reads (take (c .told .written) (c .next)) (stepOn w f at .spare)) o back) g in
-          subst (λ (w : Spare). Yes (takenStated f (takenAt f at) (modelOf (w .state))) → ToldTheSame (old .state) (w .state)) same stepped
+    stepped : Told (stepOn old f at .spare)
+    unfolding deedOn
+    stepped = deed-told old (accepted s old e .sound) (feeding f at)
+
+    pub apply-told : c .told .part ≡ 2 → reads (take (c .told .written) (c .next)) new → Yes (deedStated old (feeding f at) (modelOf (new .state))) → ToldTheSame (old .state) (new .state)
+    apply-told part g = go (doors.apply-door s f ys yf at n m x)
+      where
+        go : doors.Door s f at n m x c → Told new
+        go (doors.kept a b d h i) = absurd (b part)
+        go (doors.unreached z ez q d h i a b k) = absurd (omega (arith, part, q))
+        go (doors.wrote z ez q nz back a d) =
+            let back′ = subst (λ (w : Spare). reads (take (c .told .written) (c .next)) (stepOn w f at .spare)) (one-spare s z old ez e) back in
+            subst Told (one-spare _ _ new back′ g) stepped
+
+  -- ---- cablegorse_follow, where an image was written: the records that its run reads
+  module _ (n : List ℕ) where
+    abbrev chunk : Chunked
+    chunk = followOf s f n
+
+    pub follow-told : (chunk .told .written ≡ 0 → ⊥) → reads (take (chunk .told .written) (chunk .next)) new → Yes (deedsStated old (runDeeds (length f) old f 0)) → ToldTheSame (old .state) (new .state)
+    follow-told some g t = go (doors.follow-door s f ys yf n)
+      where
+        ran : ToldTheSame (old .state) (runOn (length f) old f 0 .state)
+        ran = subst (λ (w : Spare). ToldTheSame (old .state) (w .state)) (run-deeds (length f) old f 0) (deeds-told old (accepted s old e .sound) (runDeeds (length f) old f 0) t)
+
+        go : doors.Chunk s f n chunk → ToldTheSame (old .state) (new .state)
+        go (doors.kept w q) = absurd (some w)
+        go (doors.wrote z ez nz back q) =
+            let back′ = subst (λ (w : Spare). reads (take (chunk .told .written) (chunk .next)) (runOn (length f) w f 0)) (one-spare s z old ez e) back in
+            subst (λ (w : Spare). ToldTheSame (old .state) (w .state)) (one-spare _ _ new back′ g) ran
 
 -- ---- cablegorse_delete_defunct, where an image was written
 module _ (s : List ℕ) (ys : Bytes s) (hi lo kind number subject : ℕ) (n : List ℕ) (old new : Spare) (e : reads s old) where
@@ -52,7 +74,7 @@ module _ (s : List ℕ) (ys : Bytes s) (hi lo kind number subject : ℕ) (n : Li
   d = deleteOf s hi lo kind number subject n
 
   pub delete-told : (d .told .written ≡ 0 → ⊥) → reads (take (d .told .written) (d .next)) new → ToldTheSame (old .state) (new .state)
-  delete-told some g = go (delete-door s ys hi lo kind number subject n)
+  delete-told some g = go (doors.delete-door s ys hi lo kind number subject n)
     where
       go : doors.Deleted s (id hi lo) subject n d → ToldTheSame (old .state) (new .state)
       go (doors.kept w q) = absurd (some w)

@@ -1,15 +1,16 @@
--- 02, C-20 computed, from the empty state by operations: subject 1 locks ECU 5 (lock 1), subject 2 breaks that (lock 2),
--- subject 3 breaks that (lock 3). Of each entry its id, who holds, through how many entries:
---     kept, fell       an acknowledgement of 2 leaves 1 the same holder, and the count does fall
---     last-revision    the same at the last revision, where 8 is told and the entry is gone all the same
---     superseded-too   a vehicle lock of subject 2 supersedes 2, and no entry names its id: the same
---     old-copy         a copy of entry 1 from before tells another holder: it names an entry that is gone
---     named            the condition on insertion is needed: lock 3 goes, and one with its id comes, which 2 still names
---     deletion         deletion may tell another story: that lock goes again
---     replacement      and so does a replacement: the one that lock 3 came by
+-- 02, C-20 computed, from the empty state by operations: subject 1 locks ECU 5 (lock 1, which it renews), subject 2 breaks that
+-- (lock 2), subject 3 breaks that (lock 3). What is told then, and whether the claim holds:
+--     acknowledged, expired     2 goes by either, 1 has the same holder, and the count does fall
+--     first-gone                1 goes, and 2, which remains, tells what it told
+--     last-revision             at the last revision 8 is told and the entry is gone all the same
+--     inserted, vehicle         a vehicle lock of subject 2 supersedes 2, and no entry names its id
+--     old-copy                  a copy of 1 from before tells another holder: it names an entry that is gone
+--     named                     the condition on insertion is needed: lock 3 goes, and one with its id comes, which 2 still names
+--     deletion, expiration      that lock goes again by either, and another story is told
+--     replacement               the one that lock 3 came by told another story
 -- Assumes nothing.
 use mathlib.Core.Path.{_≡_, refl}
-use mathlib.Core.Bool.{true, false}
+use mathlib.Core.Bool.{Bool, true}
 use mathlib.Core.List.{List, [], _∷_}
 use Prim.Native.Nat.{ℕ}
 use lib.ListN.{getD}
@@ -29,15 +30,16 @@ use Rattle.operations.specs.declared.answers.Acknowledgement.the-variants as ac
 use Rattle.operations.specs.Answers.{isDone, refuseIf, andThen}
 use Rattle.operations.specs.Defuncts.{redirect, other, removeD, superseded, supersede, toDefunct}
 use Rattle.operations.specs.Trees.{childOf, inTree, treeParts, rootParts, rootsParts}
-use Rattle.operations.specs.Checks.{lastRevision, checkList, checkId, checkScope, checkParentActive, checkParentVehicle, checkParentOwner, checkParentCover, conflicts, checkClear, atLast, checkRevision, checkRoom, missing, checkActive, checkCover, checkHolder}
+use Rattle.operations.specs.Checks.{lastRevision, checkList, checkId, checkScope, checkParentActive, checkParentVehicle, checkParentOwner, checkParentCover, conflicts, checkClear, atLast, checkRevision, checkRoom, checkRoot, missing, checkActive, settledLock, checkFree, checkListed, checkOwner, checkCover, checkChild, checkHolder}
 use Rattle.operations.specs.Insert.{insertedIn, judgeInsert, closedInsert, settledInsert, insertActiveWith, insertActiveOn}
-use Rattle.operations.specs.Vehicle.{nest, adopt}
-use Rattle.operations.specs.Delete.{withoutTree, deleteFound, deleteOn}
+use Rattle.operations.specs.Vehicle.{nest, adopt, vehicleIn, judgeVehicle, insertVehicleWith, insertVehicleOn}
+use Rattle.operations.specs.Renew.{extended, extendAt, renewedIn, judgeRenew, renewOn}
+use Rattle.operations.specs.Delete.{withoutTree, deleteFound, deleteOn, expireFound, beginExpirationOn}
 use Rattle.operations.specs.Replace.{orphan, enteredOf, replacedIn, judgeReplace, closedReplace, settledReplace, commitReplacementWith, commitReplacementOn}
-use Rattle.operations.specs.Acknowledge.{shedIn, toldAcknowledge, acknowledgedTo, acknowledgeOn}
-use Rattle.promises.specs.Steps.{Op, delete, acknowledge, stepOn}
-use Rattle.promises.specs.Bench.{idOf, set, insert, replace}
-use Rattle.stories.specs.Stories.{sameStory, keepsStories, unnamed}
+use Rattle.operations.specs.Acknowledge.{shedIn, toldAcknowledge, acknowledgedTo, acknowledgeOn, lapsed, shedTo, expireDefunctOn}
+use Rattle.promises.specs.Steps.{Op, delete, beginExpiration, acknowledge, expireDefunct, stepOn}
+use Rattle.promises.specs.Bench.{idOf, set, insert, insertOver, renewAt, replace}
+use Rattle.stories.specs.Stories.{sameStory, keepsStories, unnamed, stated}
 
 -- of each entry its id, who holds, through how many
 abbrev tales : Model → List DefunctLock → List ℕ
@@ -47,6 +49,10 @@ tales m (d ∷ ds) = dkey d ∷ holderOf m d .subject ∷ holderOf m d .links �
 abbrev told : LockState → List ℕ
 told s = tales (modelOf s) (modelOf s .defunct)
 
+-- what is claimed of an operation on a state
+abbrev claim : LockState → Op → Bool
+claim s o = stated o (modelOf (stepOn s o)) imp keepsStories (modelOf s) (modelOf (stepOn s o))
+
 -- ECU 5, locked by a subject
 abbrev granted : ℕ → ℕ → Op
 granted i subject = insert i (Ecu 5) (set (5 ∷ [])) subject
@@ -55,58 +61,60 @@ abbrev broken : ℕ → ℕ → ℕ → Op
 broken old new subject = replace (old ∷ []) new (Ecu 5) (set (5 ∷ [])) subject
 
 abbrev one : LockState
-one = stepOn (stepOn (stateOf emptyModel) (granted 1 1)) (broken 1 2 2)
+one = stepOn (stepOn (stepOn (stateOf emptyModel) (granted 1 1)) (renewAt 1 0 200)) (broken 1 2 2)
 
 abbrev two : LockState
 two = stepOn one (broken 2 3 3)
 
-abbrev cleared : LockState
-cleared = stepOn two (acknowledge (idOf 2))
-
--- the same with the last revision
 abbrev last : LockState
 last = stateOf (record { revision = lastRevision; active = modelOf two .active; defunct = modelOf two .defunct })
 
 -- a vehicle lock of subject 2
-abbrev over : LockState
-over = stepOn two (insert 9 Vehicle wholeVehicle 2)
+abbrev over : Op
+over = insert 9 Vehicle wholeVehicle 2
 
--- lock 3 goes, a lock of subject 4 with its id comes, and goes again
+abbrev overAll : Op
+overAll = insertOver 9 2 []
+
+-- entry 1 as it is before another goes
+abbrev copy : DefunctLock
+copy = getD (modelOf two .defunct) 0 blankDefunct
+
+-- lock 3 goes, and a lock of subject 4 with its id comes
 abbrev gone : LockState
 gone = stepOn two (delete (idOf 3))
 
 abbrev reused : LockState
 reused = stepOn gone (granted 3 4)
 
-abbrev again : LockState
-again = stepOn reused (delete (idOf 3))
-
--- entry 1 before the acknowledgement
-abbrev copy : DefunctLock
-copy = getD (modelOf two .defunct) 0 blankDefunct
-
 pub record Computed : Type 0 where
   start : told two ≡ 1 ∷ 3 ∷ 1 ∷ 2 ∷ 3 ∷ 0 ∷ []
-  kept : keepsStories (modelOf two) (modelOf cleared) ≡ true
-  fell : told cleared ≡ 1 ∷ 3 ∷ 0 ∷ []
-  last-revision : (acknowledgeOn last (idOf 2) .told ≡ acknowledgement.RevisionOverflow) × (told (acknowledgeOn last (idOf 2) .state) ≡ 1 ∷ 3 ∷ 0 ∷ [])
-  superseded-too : (unnamed (idOf 9) (modelOf over) ≡ true) × (told over ≡ 1 ∷ 3 ∷ 0 ∷ [])
-  old-copy : holderOf (modelOf cleared) copy ≡ held 2 0
-  named : (unnamed (idOf 3) (modelOf reused) ≡ false) × (told gone ≡ 1 ∷ 3 ∷ 1 ∷ 2 ∷ 3 ∷ 0 ∷ []) × (told reused ≡ 1 ∷ 4 ∷ 1 ∷ 2 ∷ 4 ∷ 0 ∷ []) × (keepsStories (modelOf gone) (modelOf reused) ≡ false)
-  deletion : (told again ≡ 1 ∷ 3 ∷ 1 ∷ 2 ∷ 3 ∷ 0 ∷ []) × (keepsStories (modelOf reused) (modelOf again) ≡ false)
-  replacement : (told one ≡ 1 ∷ 2 ∷ 0 ∷ []) × (keepsStories (modelOf one) (modelOf two) ≡ false)
+  acknowledged : (told (stepOn two (acknowledge (idOf 2))) ≡ 1 ∷ 3 ∷ 0 ∷ []) × (claim two (acknowledge (idOf 2)) ≡ true)
+  expired : (told (stepOn two (expireDefunct 100)) ≡ 1 ∷ 3 ∷ 0 ∷ []) × (claim two (expireDefunct 100) ≡ true)
+  first-gone : (told (stepOn two (acknowledge (idOf 1))) ≡ 2 ∷ 3 ∷ 0 ∷ []) × (claim two (acknowledge (idOf 1)) ≡ true)
+  last-revision : (acknowledgeOn last (idOf 2) .told ≡ acknowledgement.RevisionOverflow) × (told (stepOn last (acknowledge (idOf 2))) ≡ 1 ∷ 3 ∷ 0 ∷ [])
+  inserted : (told (stepOn two over) ≡ 1 ∷ 3 ∷ 0 ∷ []) × (stated over (modelOf (stepOn two over)) ≡ true) × (claim two over ≡ true)
+  vehicle : (told (stepOn two overAll) ≡ 1 ∷ 3 ∷ 0 ∷ []) × (stated overAll (modelOf (stepOn two overAll)) ≡ true) × (claim two overAll ≡ true)
+  old-copy : holderOf (modelOf (stepOn two (acknowledge (idOf 2)))) copy ≡ held 2 0
+  named : (told gone ≡ 1 ∷ 3 ∷ 1 ∷ 2 ∷ 3 ∷ 0 ∷ []) × (told reused ≡ 1 ∷ 4 ∷ 1 ∷ 2 ∷ 4 ∷ 0 ∷ []) × (claim gone (granted 3 4) ≡ true)
+  deletion : (told (stepOn reused (delete (idOf 3))) ≡ 1 ∷ 3 ∷ 1 ∷ 2 ∷ 3 ∷ 0 ∷ []) × (claim reused (delete (idOf 3)) ≡ true)
+  expiration : (told (stepOn reused (beginExpiration (idOf 3) 100)) ≡ 1 ∷ 3 ∷ 1 ∷ 2 ∷ 3 ∷ 0 ∷ []) × (claim reused (beginExpiration (idOf 3) 100) ≡ true)
+  replacement : (told one ≡ 1 ∷ 2 ∷ 0 ∷ []) × (claim one (broken 2 3 3) ≡ true)
 
 pub computed : Computed
-unfolding _and_ _or_ _imp_ non allBelow anyBelow key sameId beforeId oddWords listedIn wordOf inSet covers overlap within isVehicle isGroup ecuIn scopeCode sameScope hasId hasIdD blankActive blankDefunct normal fits zeroId zeroSet zeroLock isBlankA isBlankD blanks inOrder neatL neatA neatD neat rule0 rule1 rule2 rule3 rule4 rule5 rule6 rule7 clash rule8 meetsNone rule9 brokenRule sound onSound onScope narrow coversDefunct walk holderOf isDone refuseIf andThen redirect other removeD superseded supersede toDefunct childOf inTree treeParts rootParts rootsParts checkList checkId checkScope checkParentActive checkParentVehicle checkParentOwner checkParentCover conflicts checkClear atLast checkRevision checkRoom missing checkActive checkCover checkHolder insertedIn judgeInsert closedInsert settledInsert insertActiveWith insertActiveOn nest adopt withoutTree deleteFound deleteOn orphan enteredOf replacedIn judgeReplace closedReplace settledReplace commitReplacementWith commitReplacementOn shedIn toldAcknowledge acknowledgedTo acknowledgeOn stepOn sameStory keepsStories unnamed
+unfolding _and_ _or_ _imp_ non allBelow anyBelow key sameId beforeId oddWords listedIn wordOf inSet covers overlap within isVehicle isGroup ecuIn scopeCode sameScope hasId hasIdD blankActive blankDefunct normal fits zeroId zeroSet zeroLock isBlankA isBlankD blanks inOrder neatL neatA neatD neat rule0 rule1 rule2 rule3 rule4 rule5 rule6 rule7 clash rule8 meetsNone rule9 brokenRule sound onSound onScope narrow coversDefunct walk holderOf isDone refuseIf andThen redirect other removeD superseded supersede toDefunct childOf inTree treeParts rootParts rootsParts checkList checkId checkScope checkParentActive checkParentVehicle checkParentOwner checkParentCover conflicts checkClear atLast checkRevision checkRoom checkRoot missing checkActive settledLock checkFree checkListed checkOwner checkCover checkChild checkHolder insertedIn judgeInsert closedInsert settledInsert insertActiveWith insertActiveOn nest adopt vehicleIn judgeVehicle insertVehicleWith insertVehicleOn extended extendAt renewedIn judgeRenew renewOn withoutTree deleteFound deleteOn expireFound beginExpirationOn orphan enteredOf replacedIn judgeReplace closedReplace settledReplace commitReplacementWith commitReplacementOn shedIn toldAcknowledge acknowledgedTo acknowledgeOn lapsed shedTo expireDefunctOn stepOn sameStory keepsStories unnamed stated
 computed =
     record {
       start = refl;
-      kept = refl;
-      fell = refl;
+      acknowledged = (refl, refl);
+      expired = (refl, refl);
+      first-gone = (refl, refl);
       last-revision = (refl, refl);
-      superseded-too = (refl, refl);
+      inserted = (refl, refl, refl);
+      vehicle = (refl, refl, refl);
       old-copy = refl;
-      named = (refl, refl, refl, refl);
+      named = (refl, refl, refl);
       deletion = (refl, refl);
+      expiration = (refl, refl);
       replacement = (refl, refl);
     }

@@ -28,7 +28,7 @@ use Rattle.promises.proofs.Core.{Core}
 use Rattle.promises.proofs.Going.{drop-gone, drop-kept, found-own, removeD-shrinks}
 use Rattle.promises.proofs.Keeping.{made, core-shed}
 use Rattle.promises.proofs.Orders.{no-ring}
-use Rattle.stories.specs.Stories.{sameStory, storyOf, keepsStories}
+use Rattle.stories.specs.Stories.{sameStory, keepsStory, keepsStories}
 use Rattle.stories.proofs.Ways.{heldAt, drop-story, active-story}
 
 -- ---- every entry that is found after was found before, and its story is the same
@@ -36,7 +36,7 @@ abbrev pub Keeps : Model → Model → Type 0
 Keeps m n = (k : ℕ) (e : DefunctLock) → findD (n .defunct) k ≡ some e → (d : DefunctLock) × (findD (m .defunct) k ≡ some d) × Yes (sameStory (holderOf m d) (holderOf n e))
 
 -- in an ascending list that is the test
-story-was : (m n : Model) (e : DefunctLock) (o : Option DefunctLock) → Yes (storyOf m n e o) → (d : DefunctLock) × (o ≡ some d) × Yes (sameStory (holderOf m d) (holderOf n e))
+story-was : (m n : Model) (e : DefunctLock) (o : Option DefunctLock) → Yes (keepsStory m n e o) → (d : DefunctLock) × (o ≡ some d) × Yes (sameStory (holderOf m d) (holderOf n e))
 story-was m n e none t = absurd (false≢true t)
 story-was m n e (some d) t = (d, refl, t)
 

@@ -1,7 +1,6 @@
 -- What can be followed from an id (Follows), after a change of the state.
---     past        an entry goes: who is followed past it comes to the same holder, through no more entries
---     along       active locks change, and at every entry's target the same subject holds: the way is the same
---     same-by     ways that come to one holder, the later no longer, are the same story
+--     drop-story     an entry goes: who is followed past it comes to the same holder, through no more entries
+--     active-story   active locks change, and at every entry's target the same subject holds: the way is the same
 -- Assumes nothing.
 use mathlib.Core.Path.{_≡_, refl, sym, ap, subst, _∙_}
 use mathlib.Core.Bool.{true}
@@ -31,11 +30,11 @@ use Rattle.promises.proofs.Keeping.{made}
 use Rattle.stories.specs.Stories.{sameStory}
 
 -- from the id k, named with the holder h, the subject u holds in n, and no more entries are passed than ds
-abbrev pub Within : Model → ℕ → ℕ → List DefunctLock → ℕ → Type 0
+abbrev Within : Model → ℕ → ℕ → List DefunctLock → ℕ → Type 0
 Within n k h ds u = (es : List DefunctLock) × Follows n k h es u × (length es ≤ length ds)
 
--- ---- the story of d in m, and that of e in n
-pub same-by : (m n : Model) → rule9 m ≡ true → rule9 n ≡ true → (d e : DefunctLock)
+-- ---- the story of d in m, and that of e in n: ways to one holder, the later no longer
+same-by : (m n : Model) → rule9 m ≡ true → rule9 n ≡ true → (d e : DefunctLock)
     → ((ds : List DefunctLock) (u : ℕ) → Follows m (key (d .target)) (d .holder) ds u → Within n (key (e .target)) (e .holder) ds u)
     → Yes (sameStory (holderOf m d) (holderOf n e))
 unfolding sameStory

@@ -14,11 +14,11 @@ pub record ToldAgain (before after : LockState) (id : LockId) (entry : DefunctLo
   pub was : DefunctLock
   pub subject : ℕ
   pub links : ℕ
-  pub fewer : ℕ
+  pub linksAgain : ℕ
   pub found : defunctByIdOn before id ≡ defunct.Lock was
   pub told : currentHolderOn before was ≡ holder.Held subject links
-  pub again : currentHolderOn after entry ≡ holder.Held subject fewer
-  pub fall : fewer ≤ links
+  pub again : currentHolderOn after entry ≡ holder.Held subject linksAgain
+  pub fall : linksAgain ≤ links
 
 -- of every id by which an entry is still found
 abbrev pub ToldTheSame : LockState → LockState → Type 0

@@ -22,13 +22,14 @@ sameStory told again = eqb (again .subject) (told .subject) and leb (again .link
 
 -- ---- "for every remaining entry": there was one with its id, and that one's story is the same. Each is asked as it stands
 -- in its own state, since an entry that pointed at a gone one has taken over its target and holder
-abbrev pub storyOf : Model → Model → DefunctLock → Option DefunctLock → Bool
-storyOf before after entry none = false
-storyOf before after entry (some was) = sameStory (holderOf before was) (holderOf after entry)
+abbrev pub keepsStory : Model → Model → DefunctLock → Option DefunctLock → Bool
+keepsStory before after entry none = false
+keepsStory before after entry (some was) = sameStory (holderOf before was) (holderOf after entry)
 
 unfoldable pub keepsStories : Model → Model → Bool
-keepsStories before after = all (λ entry. storyOf before after entry (findD (before .defunct) (dkey entry))) (after .defunct)
+keepsStories before after = all (λ entry. keepsStory before after entry (findD (before .defunct) (dkey entry))) (after .defunct)
 
+-- of two states
 abbrev pub StoriesKept : LockState → LockState → Type 0
 StoriesKept before after = Yes (keepsStories (modelOf before) (modelOf after))
 
@@ -38,7 +39,7 @@ unnamed id after = all (λ entry. non (eqb (key (entry .target)) (key id))) (aft
 
 -- ---- of which operations it is stated: "acknowledgement and defunct expiry"; "For insertion it is stated only where, after
 -- it, no remaining entry names the new id as its replacement; replacement is excepted." Renewal, which 02 doesn't name, keeps
--- every story as well. Deletion and begin_expiration, not named either, do not.
+-- every story as well; deletion and begin_expiration, not named either, may not.
 unfoldable pub stated : Op → Model → Bool
 stated (insertActive lock) after = unnamed (lock .lock .id) after
 stated (insertVehicle lock ids) after = unnamed (lock .lock .id) after
