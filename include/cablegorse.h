@@ -247,7 +247,8 @@ enum cablegorse_question {
     CABLEGORSE_ASK_TESTER_PRESENT_FOR = 9,         /* x subject, y kind * 256 + number: [0], [1, ECU] or [2, group] */
     CABLEGORSE_ASK_TESTER_PRESENT_NEEDED = 10,     /* x 1 ECU or 2 group, y number: [0] or [1] */
     CABLEGORSE_ASK_UNCOVERED_DEFUNCT = 11,         /* an ACTIVE record (its subject, scope, coverage), x now: found, DEFUNCT */
-    CABLEGORSE_ASK_CURRENT_HOLDER = 12,            /* a DEFUNCT record, in the state or not: [subject, links] */
+    CABLEGORSE_ASK_CURRENT_HOLDER = 12,            /* a DEFUNCT record, in the state or not: [subject, links]; look the
+                                                      entry up again (4) before asking again */
     CABLEGORSE_ASK_VEHICLE_LOCK_OWNER_SUB = 13,    /* [0], or [1, subject] */
     CABLEGORSE_ASK_HAS_NON_VEHICLE_LOCKS = 14      /* [0] or [1] */
 };

@@ -8,12 +8,14 @@ use oracle::{
     generate::{self, Case, Profile, Rng},
     judge::{Judge, Spare},
     model::{Operation, State},
-    names, small, wire,
+    names, small,
+    stories::Retold,
+    wire,
 };
 
 use crate::{
     pair::{self, Buffers, Question, Subject},
-    stories::{self, Side},
+    stories::Side,
     tally::{Tally, label},
 };
 
@@ -24,8 +26,8 @@ pub const STATES: usize = 64;
 /// answers twice or thrice.
 const KINDS: [usize; 14] = [0, 0, 0, 1, 1, 2, 3, 4, 5, 5, 5, 6, 7, 8];
 
-/// The same for stories: what clears, what may put a name in, what tells another story.
-const STORY_KINDS: [usize; 12] = [6, 6, 6, 7, 7, 8, 0, 0, 1, 1, 3, 5];
+/// The same for stories.
+const STORY_KINDS: [usize; 16] = [0, 0, 0, 1, 1, 1, 2, 3, 4, 4, 5, 5, 6, 6, 7, 8];
 
 /// Entries of a state that are asked for their story.
 const ASKED: usize = 4;
@@ -208,18 +210,31 @@ impl Run {
             return;
         }
         let kind = STORY_KINDS[self.rng.below(STORY_KINDS.len())];
-        let operation = generate::operation_of(&mut self.rng, case, kind);
+        let mut operation = generate::operation_of(&mut self.rng, case, kind);
+        // Now and then a lock comes with an id that an entry names.
+        if let Operation::InsertActive { lock } | Operation::InsertVehicle { lock, .. } =
+            &mut operation
+            && self.rng.percent(30)
+        {
+            lock.lock.id = case.state.defunct[self.rng.below(case.state.defunct.len())].target;
+        }
         let mut before = Side::new(&case.state);
         let Some(mut after) = before.after(&operation) else {
             return;
         };
         self.tally.operations += 1;
-        let left = after.state().defunct.clone();
-        let first = self.rng.below(left.len() + 1);
-        for entry in left.iter().cycle().skip(first).take(ASKED.min(left.len())) {
-            let turn = stories::turn(&mut before, &mut after, &operation, entry);
-            self.tally.calls += 4;
-            self.tally.see("stories", turn);
+        let mut left = after.state().defunct.clone();
+        let first = self.rng.below(left.len().max(1));
+        left.rotate_left(first);
+        // Those that took over a target come first.
+        left.sort_by_key(|entry| case.state.defunct.contains(entry));
+        for entry in left.iter().take(ASKED) {
+            let id = entry.lock.id;
+            let was = before.told(id);
+            let now = after.told(id).expect("it remains");
+            let retold = Retold::of(was, now).checked(&operation, &case.state, after.state());
+            self.tally.calls += if was.is_some() { 4 } else { 3 };
+            self.tally.see("stories", retold);
         }
     }
 

@@ -5,8 +5,8 @@
 use cablegorse::{LockId, Replica};
 use oracle::{
     judge::Judge,
-    model::{Defunct, Id, Operation, Scope, State},
-    stories::{self, Story, Turn},
+    model::{Id, Operation, Scope, State},
+    stories::{self, Story},
     wire,
 };
 
@@ -54,38 +54,26 @@ impl Side {
     }
 
     /// What both tell of the entry that they find by its id.
-    fn told(&mut self, id: Id) -> Option<Story> {
+    ///
+    /// # Panics
+    ///
+    /// Where they differ.
+    pub fn told(&mut self, id: Id) -> Option<Story> {
         let found = self.library.defunct_by_id(LockId(id.0));
-        let ours = found.map(|entry| self.library.current_holder(&entry));
-        let entry = self.state().defunct_at(id).copied();
-        let theirs = entry.map(|entry| stories::told(&mut self.original, &entry));
+        let ours = found.map(|entry| {
+            let held = self.library.current_holder(&entry);
+            let (subject, links) = (held.subject, held.links.into());
+            Story { subject, links }
+        });
+        let theirs = stories::told(&mut self.original, id);
         assert_eq!(
-            ours.map(|held| (held.subject, u32::from(held.links))),
-            theirs.map(|story| (story.subject, story.links)),
-            "{id} of {:?}",
+            ours,
+            theirs,
+            "the library's and the original's story of {id} in {:?}",
             self.state()
         );
         theirs
     }
-}
-
-/// What became of a remaining entry's story.
-///
-/// # Panics
-///
-/// Where the two sides differ, or a story isn't kept that 02 says is.
-pub fn turn(before: &mut Side, after: &mut Side, operation: &Operation, entry: &Defunct) -> String {
-    let id = entry.lock.id;
-    let was = before.told(id);
-    let turn = Turn::of(was, after.told(id).expect("it remains"));
-    let stated = stories::is_stated(operation, after.state());
-    assert!(
-        turn.is_kept() || !stated,
-        "{turn:?} of {entry:?} by {operation:?}\nbefore {:?}\nafter {:?}",
-        before.state(),
-        after.state()
-    );
-    turn.label(stated)
 }
 
 fn in_the_crate(scope: Scope) -> cablegorse::Scope {

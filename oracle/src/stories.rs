@@ -5,7 +5,7 @@
 use crate::{
     answer::Seen,
     judge::Judge,
-    model::{Defunct, Operation, Read, State},
+    model::{Defunct, Id, Operation, Read, State},
 };
 
 /// Who holds, through how many entries.
@@ -17,7 +17,7 @@ pub struct Story {
 
 /// A remaining entry's story, against that of the entry with its id before.
 #[derive(Clone, Copy, Debug, PartialEq, Eq)]
-pub enum Turn {
+pub enum Retold {
     Same,
     /// The same holder, through fewer entries.
     Fewer,
@@ -27,7 +27,7 @@ pub enum Turn {
     New,
 }
 
-impl Turn {
+impl Retold {
     #[must_use]
     pub fn of(before: Option<Story>, after: Story) -> Self {
         match before {
@@ -40,28 +40,44 @@ impl Turn {
         }
     }
 
-    /// What 02 asks for.
+    /// For a tally, by operation and whether 02 states it there.
+    ///
+    /// # Panics
+    ///
+    /// Where a story isn't kept that 02 says is.
     #[must_use]
-    pub fn is_kept(self) -> bool {
-        matches!(self, Self::Same | Self::Fewer)
-    }
-
-    /// For a tally, with whether 02 states it of the operation.
-    #[must_use]
-    pub fn label(self, stated: bool) -> String {
-        let turn = match self {
+    pub fn checked(self, operation: &Operation, before: &State, after: &State) -> String {
+        let stated = is_stated(operation, after);
+        assert!(
+            !stated || matches!(self, Self::Same | Self::Fewer),
+            "a story isn't kept: {self:?} by {operation:?}\nbefore {before:?}\nafter {after:?}"
+        );
+        let retold = match self {
             Self::Same => "same story",
             Self::Fewer => "fewer entries",
             Self::Another => "another story",
             Self::New => "new entry",
         };
-        format!("{}stated, {turn}", if stated { "" } else { "not " })
+        let not = if stated { "" } else { "not " };
+        format!("{}, {not}stated: {retold}", operation.name())
     }
 }
 
-/// What a run is to have seen, so that it shows something: a count that fell, and, where nothing
-/// is said, a story that became another.
-pub const TELLING: [&str; 2] = ["stated, fewer entries", "not stated, another story"];
+/// What a run is to have seen, so that it shows something: a count that fell by each operation that
+/// takes entries away, and another story by each that may tell one.
+pub const TELLING: [&str; 11] = [
+    "acknowledge_defunct, stated: fewer entries",
+    "expire_defunct, stated: fewer entries",
+    "delete_defunct, stated: fewer entries",
+    "insert_active, stated: fewer entries",
+    "insert_vehicle, stated: fewer entries",
+    "renew, stated: same story",
+    "insert_active, not stated: another story",
+    "insert_vehicle, not stated: another story",
+    "delete, not stated: another story",
+    "begin_expiration, not stated: another story",
+    "commit_replacement, not stated: another story",
+];
 
 /// Clearing and renewal keep every story; an insertion where, after it, no remaining entry names
 /// the new id as its replacement. Of the others nothing is said.
@@ -81,25 +97,27 @@ pub fn is_stated(operation: &Operation, after: &State) -> bool {
     }
 }
 
-/// The original's word on an entry of a sound state, with the judge's count of links.
+/// The original's word on the entry with this id, where it finds one, with the judge's count of
+/// links.
 ///
 /// # Panics
 ///
 /// On a state that isn't sound.
-pub fn told(judge: &mut Judge, entry: &Defunct) -> Story {
+pub fn told(judge: &mut Judge, id: Id) -> Option<Story> {
+    match judge.read(&Read::DefunctById(id)) {
+        Seen::Defunct(found) => found.map(|entry| told_of(judge, &entry)),
+        seen => panic!("{seen:?} of {id}"),
+    }
+}
+
+/// The same of any record.
+///
+/// # Panics
+///
+/// On a state that isn't sound.
+pub fn told_of(judge: &mut Judge, entry: &Defunct) -> Story {
     match judge.read(&Read::CurrentHolder(*entry)) {
         Seen::Holder { subject, links } => Story { subject, links },
         seen => panic!("{seen:?} of {entry:?}"),
     }
-}
-
-/// What became of a remaining entry's story, by the original: each state is asked with its own
-/// entry, looked up by the id.
-///
-/// # Panics
-///
-/// On a state that isn't sound.
-pub fn turn(before: &mut Judge, after: &mut Judge, entry: &Defunct) -> Turn {
-    let was = before.state().defunct_at(entry.lock.id).copied();
-    Turn::of(was.map(|was| told(before, &was)), told(after, entry))
 }

@@ -35,6 +35,8 @@ use oracle::{judge, stories, wire};
 
 /// Each reachable answer is to be seen this often.
 const OFTEN: u64 = 100;
+/// Each telling change of a story is: one operation a state, a few of its entries.
+const SOMETIMES: u64 = 10;
 
 fn main() -> ExitCode {
     let words: Vec<String> = env::args().skip(1).collect();
@@ -357,11 +359,15 @@ fn ended(sum: &Tally, seed: u64, threads: u64, start: Instant) {
 
 fn seldom(sum: &Tally) -> ExitCode {
     let mut code = ExitCode::SUCCESS;
-    let besides = ["0 stale", "0 not due", "0 false"];
-    for answer in REACHABLE.iter().chain(&besides).chain(&stories::TELLING) {
-        let count = sum.count(answer);
-        if count < OFTEN {
-            println!("SELDOM: answer {answer} was seen {count} times, {OFTEN} are asked for");
+    let answers = REACHABLE.iter().chain(&["0 stale", "0 not due", "0 false"]);
+    let stories = stories::TELLING.iter();
+    for (seen, asked) in answers
+        .map(|answer| (answer, OFTEN))
+        .chain(stories.map(|story| (story, SOMETIMES)))
+    {
+        let count = sum.count(seen);
+        if count < asked {
+            println!("SELDOM: {seen} was seen {count} times, {asked} are asked for");
             code = ExitCode::FAILURE;
         }
     }

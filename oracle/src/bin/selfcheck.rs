@@ -18,7 +18,9 @@ use oracle::{
     original::Original,
     paper,
     rules::broken_rule,
-    small, stories, wire,
+    small,
+    stories::{self, Retold},
+    wire,
 };
 
 /// How often each (function, answer) was seen.
@@ -181,15 +183,13 @@ impl Run {
         if before == after {
             return;
         }
-        let stated = stories::is_stated(operation, after);
         let (mut old, mut new) = (Judge::new(before), Judge::new(after));
         for entry in &after.defunct {
-            let turn = stories::turn(&mut old, &mut new, entry);
-            assert!(
-                turn.is_kept() || !stated,
-                "{turn:?} of {entry:?} by {operation:?}\nbefore {before:?}\nafter {after:?}"
-            );
-            self.seen.see("stories", turn.label(stated));
+            let id = entry.lock.id;
+            let was = stories::told(&mut old, id);
+            let now = stories::told(&mut new, id).expect("it remains");
+            let retold = Retold::of(was, now).checked(operation, before, after);
+            self.seen.see("stories", retold);
         }
     }
 
