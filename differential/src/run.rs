@@ -15,7 +15,7 @@ use oracle::{
 
 use crate::{
     pair::{self, Buffers, Question, Subject},
-    stories::Side,
+    stories::Both,
     tally::{Tally, label},
 };
 
@@ -26,7 +26,7 @@ pub const STATES: usize = 64;
 /// answers twice or thrice.
 const KINDS: [usize; 14] = [0, 0, 0, 1, 1, 2, 3, 4, 5, 5, 5, 6, 7, 8];
 
-/// The same for stories.
+/// One kind is drawn for a state's stories.
 const STORY_KINDS: [usize; 16] = [0, 0, 0, 1, 1, 1, 2, 3, 4, 4, 5, 5, 6, 6, 7, 8];
 
 /// Entries of a state that are asked for their story.
@@ -218,23 +218,28 @@ impl Run {
         {
             lock.lock.id = case.state.defunct[self.rng.below(case.state.defunct.len())].target;
         }
-        let mut before = Side::new(&case.state);
+        let mut before = Both::new(&case.state);
         let Some(mut after) = before.after(&operation) else {
             return;
         };
         self.tally.operations += 1;
+        if after.state() == before.state() {
+            return;
+        }
         let mut left = after.state().defunct.clone();
         let first = self.rng.below(left.len().max(1));
         left.rotate_left(first);
-        // Those that took over a target come first.
+        // Entries that are new or took over a target come first.
         left.sort_by_key(|entry| case.state.defunct.contains(entry));
         for entry in left.iter().take(ASKED) {
             let id = entry.lock.id;
             let was = before.told(id);
             let now = after.told(id).expect("it remains");
-            let retold = Retold::of(was, now).checked(&operation, &case.state, after.state());
+            let retold = Retold::of(was, now);
+            retold.check(&operation, before.state(), after.state());
             self.tally.calls += if was.is_some() { 4 } else { 3 };
-            self.tally.see("stories", retold);
+            let label = retold.label(&operation, after.state());
+            self.tally.see("stories", label);
         }
     }
 

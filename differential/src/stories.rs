@@ -10,13 +10,13 @@ use oracle::{
     wire,
 };
 
-/// A state on both sides.
-pub struct Side {
+/// A state in the library and in the original.
+pub struct Both {
     library: Replica,
     original: Judge,
 }
 
-impl Side {
+impl Both {
     /// # Panics
     ///
     /// On a state that isn't sound.
@@ -35,6 +35,10 @@ impl Side {
     }
 
     /// The same after an operation, or nothing where no record holds it.
+    ///
+    /// # Panics
+    ///
+    /// Where the two images differ.
     #[must_use]
     pub fn after(&self, operation: &Operation) -> Option<Self> {
         let original = Judge::new(&self.original.apply(operation).state);

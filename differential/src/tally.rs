@@ -51,7 +51,7 @@ impl Tally {
                 println!("{function}");
                 last = function;
             }
-            println!("  {answer:<20} {count:>12}");
+            println!("  {answer:<46} {count:>12}");
         }
     }
 }

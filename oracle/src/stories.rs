@@ -40,35 +40,51 @@ impl Retold {
         }
     }
 
-    /// For a tally, by operation and whether 02 states it there.
+    /// Panics where a story isn't kept that 02 says is.
     ///
     /// # Panics
     ///
-    /// Where a story isn't kept that 02 says is.
-    #[must_use]
-    pub fn checked(self, operation: &Operation, before: &State, after: &State) -> String {
-        let stated = is_stated(operation, after);
+    /// As said.
+    pub fn check(self, operation: &Operation, before: &State, after: &State) {
         assert!(
-            !stated || matches!(self, Self::Same | Self::Fewer),
+            matches!(self, Self::Same | Self::Fewer) || !is_stated(operation, after),
             "a story isn't kept: {self:?} by {operation:?}\nbefore {before:?}\nafter {after:?}"
         );
+    }
+
+    /// For a tally: the operation, with (8) at the last revision; whether 02 states it there.
+    #[must_use]
+    pub fn label(self, operation: &Operation, after: &State) -> String {
+        let name = operation.name();
+        let last = if after.revision == u64::MAX {
+            " (8)"
+        } else {
+            ""
+        };
+        let not = if is_stated(operation, after) {
+            ""
+        } else {
+            "not "
+        };
         let retold = match self {
             Self::Same => "same story",
             Self::Fewer => "fewer entries",
             Self::Another => "another story",
             Self::New => "new entry",
         };
-        let not = if stated { "" } else { "not " };
-        format!("{}, {not}stated: {retold}", operation.name())
+        format!("{name}{last}, {not}stated: {retold}")
     }
 }
 
 /// What a run is to have seen, so that it shows something: a count that fell by each operation that
-/// takes entries away, and another story by each that may tell one.
-pub const TELLING: [&str; 11] = [
+/// takes entries away, a renewal, and another story by each operation that may tell one.
+pub const WANTED: [&str; 14] = [
     "acknowledge_defunct, stated: fewer entries",
+    "acknowledge_defunct (8), stated: fewer entries",
     "expire_defunct, stated: fewer entries",
+    "expire_defunct (8), stated: fewer entries",
     "delete_defunct, stated: fewer entries",
+    "delete_defunct (8), stated: fewer entries",
     "insert_active, stated: fewer entries",
     "insert_vehicle, stated: fewer entries",
     "renew, stated: same story",

@@ -73,7 +73,7 @@ fn once_broken() -> State {
         })
 }
 
-/// The entries 1 and 2, of subject 2; the lock 3 of subject 3.
+/// The entry 1 of subject 1 and the entry 2 of subject 2; the lock 3 of subject 3.
 fn twice_broken() -> State {
     after(&once_broken(), &broken(2, 3, 3))
 }
@@ -112,9 +112,10 @@ fn clearing_keeps_the_story() {
         revision: u64::MAX,
         ..state
     };
-    let outcome = Judge::new(&last).apply(&acknowledge(2));
-    assert_eq!(outcome.told.number(), 8);
-    assert_eq!(told(&outcome.state), [(1, 3, 0)]);
+    for clear in [acknowledge(2), expire, delete] {
+        assert_eq!(Judge::new(&last).apply(&clear).told.number(), 8);
+        assert_eq!(told_after(&last, &clear), [(1, 3, 0)]);
+    }
 }
 
 #[test]

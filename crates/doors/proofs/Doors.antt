@@ -120,7 +120,7 @@ pub apply-door : (s f : List ℕ) → Bytes s → Bytes f → (at : ℕ) (n m x 
 apply-door s f ys yf at n m x = typed-door s f at n m x (λ sp e. accepted-typed s ys sp e) yf
 
 -- ---- a chain of calls
-one-spare : (s : List ℕ) (sp z : Spare) → reads s sp → reads s z → sp ≡ z
+pub one-spare : (s : List ℕ) (sp z : Spare) → reads s sp → reads s z → sp ≡ z
 one-spare s sp z e g = ap (λ (i : Imaged). i .spare) (sym e ∙ g)
 
 goes-on : (v : Event) → isApplied v ≡ true → stops v ≡ false

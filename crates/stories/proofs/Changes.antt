@@ -1,4 +1,4 @@
--- 02, C-20 on the lists, over any limits: what each operation that goes through leaves, and `step-lists`, all of a feed's
+-- 02, C-20 on the lists, over any limits: what each operation that goes through leaves, and `step-kept`, all of a feed's
 -- operations in one, refused or not. Assumes nothing.
 use mathlib.Core.Path.{_≡_, refl, sym, ap, _∙_}
 use mathlib.Core.Bool.{Bool}
@@ -74,8 +74,8 @@ unfolding unnamed
 
 -- ---- what an operation leaves
 module _ (m : Model) (c : Core m) where
-  pub nothing-kept : Yes (keepsStories m m)
-  nothing-kept = →keeps m m (c .orderD) (keeps-refl m)
+  pub unchanged-kept : Yes (keepsStories m m)
+  unchanged-kept = →keeps m m (c .orderD) (keeps-refl m)
 
   -- entries go, "the last-revision refusal included": with the next revision or with the same
   pub removed-kept : (i : LockId) → Yes (keepsStories m (shedIn m (removeD i (m .defunct))))
@@ -142,15 +142,15 @@ module _ (k : Limits) (m : Model) (s : Yes (sound k m)) where
   core : Core m
   core = stands-of k m s .core
 
-  pub step-lists : (o : Op) → Yes (stated o (step k m o)) → Yes (keepsStories m (step k m o))
+  pub step-kept : (o : Op) → Yes (stated o (step k m o)) → Yes (keepsStories m (step k m o))
   unfolding step stated normal
-  step-lists (insertActive y) =
-      cond-both (λ (n : Model). Yes (unnamed (y .lock .id) n) → Yes (keepsStories m n)) _ m (isDone (judgeInsert k m (normal y))) (λ d. inserted-kept m core (normal y)) (λ d t. nothing-kept m core)
-  step-lists (insertVehicle y ws) =
-      cond-both (λ (n : Model). Yes (unnamed (y .lock .id) n) → Yes (keepsStories m n)) _ m (isDone (judgeVehicle k m (normal y) ws)) (λ d. vehicle-kept m core (normal y) ws) (λ d t. nothing-kept m core)
-  step-lists (renew i e now has d) = λ t. renewal-kept m _ (judgeRenew m i e now) (nothing-kept m core) (renewed-kept m core i e has d)
-  step-lists (delete i) = λ t. absurd (against refl t)
-  step-lists (beginExpiration i now) = λ t. absurd (against refl t)
-  step-lists (commitReplacement ws y by at) = λ t. absurd (against refl t)
-  step-lists (acknowledge i) = λ t. cond-both (λ (n : Model). Yes (keepsStories m n)) _ m (any (hasIdD i) (m .defunct)) (λ d. removed-kept m core i) (λ d. nothing-kept m core)
-  step-lists (expireDefunct now) = λ t. cond-both (λ (n : Model). Yes (keepsStories m n)) _ m (any (lapsed now) (m .defunct)) (λ d. all-removed-kept m core (lapsedOf now m)) (λ d. nothing-kept m core)
+  step-kept (insertActive y) =
+      cond-both (λ (n : Model). Yes (unnamed (y .lock .id) n) → Yes (keepsStories m n)) _ m (isDone (judgeInsert k m (normal y))) (λ d. inserted-kept m core (normal y)) (λ d t. unchanged-kept m core)
+  step-kept (insertVehicle y ws) =
+      cond-both (λ (n : Model). Yes (unnamed (y .lock .id) n) → Yes (keepsStories m n)) _ m (isDone (judgeVehicle k m (normal y) ws)) (λ d. vehicle-kept m core (normal y) ws) (λ d t. unchanged-kept m core)
+  step-kept (renew i e now has d) = λ t. renewal-kept m _ (judgeRenew m i e now) (unchanged-kept m core) (renewed-kept m core i e has d)
+  step-kept (delete i) = λ t. absurd (against refl t)
+  step-kept (beginExpiration i now) = λ t. absurd (against refl t)
+  step-kept (commitReplacement ws y by at) = λ t. absurd (against refl t)
+  step-kept (acknowledge i) = λ t. cond-both (λ (n : Model). Yes (keepsStories m n)) _ m (any (hasIdD i) (m .defunct)) (λ d. removed-kept m core i) (λ d. unchanged-kept m core)
+  step-kept (expireDefunct now) = λ t. cond-both (λ (n : Model). Yes (keepsStories m n)) _ m (any (lapsed now) (m .defunct)) (λ d. all-removed-kept m core (lapsedOf now m)) (λ d. unchanged-kept m core)

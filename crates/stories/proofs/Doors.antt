@@ -1,6 +1,6 @@
 -- C-20 at the library's door: old is the spare of the image handed in, new that of the image that was written. Assumes
 -- nothing.
-use mathlib.Core.Path.{_≡_, sym, ap, subst, _∙_}
+use mathlib.Core.Path.{_≡_, subst}
 use mathlib.Core.List.{List}
 use Prim.Native.Nat.{ℕ}
 use native.Mathlib.Omega.{arith}
@@ -11,22 +11,23 @@ use Rattle.locks.specs.Locks.{deleteDefunctOn}
 use Rattle.records.specs.Wire.{id}
 use Rattle.records.proofs.Numbers.{Bytes}
 use Rattle.image.specs.declared.Spare.{Spare}
-use Rattle.image.specs.declared.Imaged.{Imaged}
 use Rattle.image.proofs.Trips.{accepted}
 use Rattle.feed.specs.Feed.{stepOn}
 use Rattle.feed.specs.Runs.{runOn}
 use Rattle.takeover.specs.Deeds.{feeding, deedOn}
-use Rattle.cablegorse.specs.Changes.{Changed, applyOf, Left, deleteOf}
+use Rattle.cablegorse.specs.Changes.{Changed, applyOf, Left, spareAfter, deleteOf}
 use Rattle.cablegorse.specs.Chunks.{Chunked, followOf}
 use Rattle.doors.specs.Reads.{reads}
+use Rattle.doors.proofs.Doors.{one-spare}
 use Rattle.doors.proofs.Doors as doors
 use Rattle.stories.specs.Deeds.{deedStated, deedsStated, runDeeds}
 use Rattle.stories.specs.Again.{ToldTheSame}
 use Rattle.stories.proofs.Again.{delete-defunct-told}
 use Rattle.stories.proofs.Deeds.{deed-told, deeds-told, run-deeds}
 
-one-spare : (s : List ℕ) (a b : Spare) → reads s a → reads s b → a ≡ b
-one-spare s a b e g = ap (λ (i : Imaged). i .spare) (sym e ∙ g)
+-- what is left of the one spare that an image holds is the one spare that the next image holds
+same-end : (s b : List ℕ) (left : Spare → Spare) (z old new : Spare) → reads s z → reads s old → reads b (left z) → reads b new → left old ≡ new
+same-end s b left z old new ez e back g = one-spare b (left old) new (subst (λ (w : Spare). reads b (left w)) (one-spare s z old ez e) back) g
 
 module _ (s f : List ℕ) (ys : Bytes s) (yf : Bytes f) (old new : Spare) (e : reads s old) where
   -- ---- cablegorse_apply, where the record was applied
@@ -47,9 +48,7 @@ module _ (s f : List ℕ) (ys : Bytes s) (yf : Bytes f) (old new : Spare) (e : r
         go : doors.Door s f at n m x c → Told new
         go (doors.kept a b d h i) = absurd (b part)
         go (doors.unreached z ez q d h i a b k) = absurd (omega (arith, part, q))
-        go (doors.wrote z ez q nz back a d) =
-            let back′ = subst (λ (w : Spare). reads (take (c .told .written) (c .next)) (stepOn w f at .spare)) (one-spare s z old ez e) back in
-            subst Told (one-spare _ _ new back′ g) stepped
+        go (doors.wrote z ez q nz back a d) = subst Told (same-end s _ (λ w. stepOn w f at .spare) z old new ez e back g) stepped
 
   -- ---- cablegorse_follow, where an image was written: the records that its run reads
   module _ (n : List ℕ) where
@@ -64,21 +63,18 @@ module _ (s f : List ℕ) (ys : Bytes s) (yf : Bytes f) (old new : Spare) (e : r
 
         go : doors.Chunk s f n chunk → ToldTheSame (old .state) (new .state)
         go (doors.kept w q) = absurd (some w)
-        go (doors.wrote z ez nz back q) =
-            let back′ = subst (λ (w : Spare). reads (take (chunk .told .written) (chunk .next)) (runOn (length f) w f 0)) (one-spare s z old ez e) back in
-            subst (λ (w : Spare). ToldTheSame (old .state) (w .state)) (one-spare _ _ new back′ g) ran
+        go (doors.wrote z ez nz back q) = subst (λ (w : Spare). ToldTheSame (old .state) (w .state)) (same-end s _ (λ w. runOn (length f) w f 0) z old new ez e back g) ran
 
 -- ---- cablegorse_delete_defunct, where an image was written
 module _ (s : List ℕ) (ys : Bytes s) (hi lo kind number subject : ℕ) (n : List ℕ) (old new : Spare) (e : reads s old) where
   abbrev d : Left
   d = deleteOf s hi lo kind number subject n
 
-  pub delete-told : (d .told .written ≡ 0 → ⊥) → reads (take (d .told .written) (d .next)) new → ToldTheSame (old .state) (new .state)
-  delete-told some g = go (doors.delete-door s ys hi lo kind number subject n)
+  pub drop-told : (d .told .written ≡ 0 → ⊥) → reads (take (d .told .written) (d .next)) new → ToldTheSame (old .state) (new .state)
+  drop-told some g = go (doors.delete-door s ys hi lo kind number subject n)
     where
       go : doors.Deleted s (id hi lo) subject n d → ToldTheSame (old .state) (new .state)
       go (doors.kept w q) = absurd (some w)
-      go (doors.wrote sp k es q nz back r) =
-          subst (λ (w : Spare). ToldTheSame (old .state) (w .state)) (one-spare _ _ new back g)
-          (subst (λ (w : Spare). ToldTheSame (w .state) (deleteDefunctOn (sp .state) (id hi lo) k subject .state)) (one-spare s sp old es e)
-          (delete-defunct-told (sp .state) (accepted s sp es .sound) (id hi lo) k subject))
+      go (doors.wrote z k ez q nz back r) =
+          subst (λ (w : Spare). ToldTheSame (old .state) (w .state)) (same-end s _ (λ w. spareAfter (w .expected) (deleteDefunctOn (w .state) (id hi lo) k subject)) z old new ez e back g)
+          (delete-defunct-told (old .state) (accepted s old e .sound) (id hi lo) k subject)

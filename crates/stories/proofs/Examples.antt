@@ -2,7 +2,8 @@
 -- (lock 2), subject 3 breaks that (lock 3). What is told then, and whether the claim holds:
 --     acknowledged, expired     2 goes by either, 1 has the same holder, and the count does fall
 --     first-gone                1 goes, and 2, which remains, tells what it told
---     last-revision             at the last revision 8 is told and the entry is gone all the same
+--     last-revision, -expiry    at the last revision 8 is told, and the entry is gone all the same
+--     said                      of clearing and of renewal it is stated, in any order
 --     inserted, vehicle         a vehicle lock of subject 2 supersedes 2, and no entry names its id
 --     old-copy                  a copy of 1 from before tells another holder: it names an entry that is gone
 --     named                     the condition on insertion is needed: lock 3 goes, and one with its id comes, which 2 still names
@@ -27,6 +28,7 @@ use Rattle.state.specs.Model.{Model, fits, emptyModel, modelOf, stateOf}
 use Rattle.rules.specs.Rules.{zeroId, zeroSet, zeroLock, isBlankA, isBlankD, blanks, inOrder, neatL, neatA, neatD, neat, rule0, rule1, rule2, rule3, rule4, rule5, rule6, rule7, clash, rule8, meetsNone, rule9, brokenRule, sound}
 use Rattle.lookups.specs.Reads.{onSound, onScope, narrow, coversDefunct, held, walk, holderOf}
 use Rattle.operations.specs.declared.answers.Acknowledgement.the-variants as acknowledgement
+use Rattle.operations.specs.declared.answers.DefunctExpiry.the-variants as expiry
 use Rattle.operations.specs.Answers.{isDone, refuseIf, andThen}
 use Rattle.operations.specs.Defuncts.{redirect, other, removeD, superseded, supersede, toDefunct}
 use Rattle.operations.specs.Trees.{childOf, inTree, treeParts, rootParts, rootsParts}
@@ -37,9 +39,12 @@ use Rattle.operations.specs.Renew.{extended, extendAt, renewedIn, judgeRenew, r
 use Rattle.operations.specs.Delete.{withoutTree, deleteFound, deleteOn, expireFound, beginExpirationOn}
 use Rattle.operations.specs.Replace.{orphan, enteredOf, replacedIn, judgeReplace, closedReplace, settledReplace, commitReplacementWith, commitReplacementOn}
 use Rattle.operations.specs.Acknowledge.{shedIn, toldAcknowledge, acknowledgedTo, acknowledgeOn, lapsed, shedTo, expireDefunctOn}
+use Rattle.locks.specs.Locks.{dropFoundOn, deleteDefunctOn}
 use Rattle.promises.specs.Steps.{Op, delete, beginExpiration, acknowledge, expireDefunct, stepOn}
 use Rattle.promises.specs.Bench.{idOf, set, insert, insertOver, renewAt, replace}
+use Rattle.takeover.specs.Deeds.{Deed, operation, deleteDefunct, deedOn}
 use Rattle.stories.specs.Stories.{sameStory, keepsStories, unnamed, stated}
+use Rattle.stories.specs.Deeds.{deedStated, deedsStated}
 
 -- of each entry its id, who holds, through how many
 abbrev tales : Model → List DefunctLock → List ℕ
@@ -76,6 +81,10 @@ over = insert 9 Vehicle wholeVehicle 2
 abbrev overAll : Op
 overAll = insertOver 9 2 []
 
+-- a renewal, a broken lock dropped by its owner, one acknowledged, one expired
+abbrev clearing : List Deed
+clearing = operation (renewAt 3 0 200) ∷ deleteDefunct (idOf 2) (Ecu 5) 2 ∷ operation (acknowledge (idOf 2)) ∷ operation (expireDefunct 200) ∷ []
+
 -- entry 1 as it is before another goes
 abbrev copy : DefunctLock
 copy = getD (modelOf two .defunct) 0 blankDefunct
@@ -92,7 +101,9 @@ pub record Computed : Type 0 where
   acknowledged : (told (stepOn two (acknowledge (idOf 2))) ≡ 1 ∷ 3 ∷ 0 ∷ []) × (claim two (acknowledge (idOf 2)) ≡ true)
   expired : (told (stepOn two (expireDefunct 100)) ≡ 1 ∷ 3 ∷ 0 ∷ []) × (claim two (expireDefunct 100) ≡ true)
   first-gone : (told (stepOn two (acknowledge (idOf 1))) ≡ 2 ∷ 3 ∷ 0 ∷ []) × (claim two (acknowledge (idOf 1)) ≡ true)
-  last-revision : (acknowledgeOn last (idOf 2) .told ≡ acknowledgement.RevisionOverflow) × (told (stepOn last (acknowledge (idOf 2))) ≡ 1 ∷ 3 ∷ 0 ∷ [])
+  last-revision : (acknowledgeOn last (idOf 2) .told ≡ acknowledgement.RevisionOverflow) × (told (stepOn last (acknowledge (idOf 2))) ≡ 1 ∷ 3 ∷ 0 ∷ []) × (claim last (acknowledge (idOf 2)) ≡ true)
+  last-expiry : (expireDefunctOn last 100 .told .answer ≡ expiry.RevisionOverflow) × (told (stepOn last (expireDefunct 100)) ≡ 1 ∷ 3 ∷ 0 ∷ []) × (claim last (expireDefunct 100) ≡ true)
+  said : deedsStated (record { state = two; expected = 0 }) clearing ≡ true
   inserted : (told (stepOn two over) ≡ 1 ∷ 3 ∷ 0 ∷ []) × (stated over (modelOf (stepOn two over)) ≡ true) × (claim two over ≡ true)
   vehicle : (told (stepOn two overAll) ≡ 1 ∷ 3 ∷ 0 ∷ []) × (stated overAll (modelOf (stepOn two overAll)) ≡ true) × (claim two overAll ≡ true)
   old-copy : holderOf (modelOf (stepOn two (acknowledge (idOf 2)))) copy ≡ held 2 0
@@ -102,14 +113,16 @@ pub record Computed : Type 0 where
   replacement : (told one ≡ 1 ∷ 2 ∷ 0 ∷ []) × (claim one (broken 2 3 3) ≡ true)
 
 pub computed : Computed
-unfolding _and_ _or_ _imp_ non allBelow anyBelow key sameId beforeId oddWords listedIn wordOf inSet covers overlap within isVehicle isGroup ecuIn scopeCode sameScope hasId hasIdD blankActive blankDefunct normal fits zeroId zeroSet zeroLock isBlankA isBlankD blanks inOrder neatL neatA neatD neat rule0 rule1 rule2 rule3 rule4 rule5 rule6 rule7 clash rule8 meetsNone rule9 brokenRule sound onSound onScope narrow coversDefunct walk holderOf isDone refuseIf andThen redirect other removeD superseded supersede toDefunct childOf inTree treeParts rootParts rootsParts checkList checkId checkScope checkParentActive checkParentVehicle checkParentOwner checkParentCover conflicts checkClear atLast checkRevision checkRoom checkRoot missing checkActive settledLock checkFree checkListed checkOwner checkCover checkChild checkHolder insertedIn judgeInsert closedInsert settledInsert insertActiveWith insertActiveOn nest adopt vehicleIn judgeVehicle insertVehicleWith insertVehicleOn extended extendAt renewedIn judgeRenew renewOn withoutTree deleteFound deleteOn expireFound beginExpirationOn orphan enteredOf replacedIn judgeReplace closedReplace settledReplace commitReplacementWith commitReplacementOn shedIn toldAcknowledge acknowledgedTo acknowledgeOn lapsed shedTo expireDefunctOn stepOn sameStory keepsStories unnamed stated
+unfolding _and_ _or_ _imp_ non allBelow anyBelow key sameId beforeId oddWords listedIn wordOf inSet covers overlap within isVehicle isGroup ecuIn scopeCode sameScope hasId hasIdD blankActive blankDefunct normal fits zeroId zeroSet zeroLock isBlankA isBlankD blanks inOrder neatL neatA neatD neat rule0 rule1 rule2 rule3 rule4 rule5 rule6 rule7 clash rule8 meetsNone rule9 brokenRule sound onSound onScope narrow coversDefunct walk holderOf isDone refuseIf andThen redirect other removeD superseded supersede toDefunct childOf inTree treeParts rootParts rootsParts checkList checkId checkScope checkParentActive checkParentVehicle checkParentOwner checkParentCover conflicts checkClear atLast checkRevision checkRoom checkRoot missing checkActive settledLock checkFree checkListed checkOwner checkCover checkChild checkHolder insertedIn judgeInsert closedInsert settledInsert insertActiveWith insertActiveOn nest adopt vehicleIn judgeVehicle insertVehicleWith insertVehicleOn extended extendAt renewedIn judgeRenew renewOn withoutTree deleteFound deleteOn expireFound beginExpirationOn orphan enteredOf replacedIn judgeReplace closedReplace settledReplace commitReplacementWith commitReplacementOn shedIn toldAcknowledge acknowledgedTo acknowledgeOn lapsed shedTo expireDefunctOn stepOn sameStory keepsStories unnamed stated dropFoundOn deleteDefunctOn deedOn deedStated deedsStated
 computed =
     record {
       start = refl;
       acknowledged = (refl, refl);
       expired = (refl, refl);
       first-gone = (refl, refl);
-      last-revision = (refl, refl);
+      last-revision = (refl, refl, refl);
+      last-expiry = (refl, refl, refl);
+      said = refl;
       inserted = (refl, refl, refl);
       vehicle = (refl, refl, refl);
       old-copy = refl;

@@ -78,11 +78,11 @@ nine : (m : Model) → Core m → rule9 m ≡ true
 nine m c = rule9-of-ends m (λ d u. c .ends (dkey d))
 
 -- ---- an entry goes; with any revision, as at the last one it is the same
-module _ (m : Model) (c : Core m) (r : ℕ) where
-  found-was : (e d : DefunctLock) (o : Option DefunctLock) → Option·map (redirect e) o ≡ some d → (b : DefunctLock) × (o ≡ some b) × (redirect e b ≡ d)
-  found-was e d none q = absurd (Option·none-ne-some d q)
-  found-was e d (some b) q = (b, refl, Option·some-injective _ _ q)
+found-was : (e d : DefunctLock) (o : Option DefunctLock) → Option·map (redirect e) o ≡ some d → (b : DefunctLock) × (o ≡ some b) × (redirect e b ≡ d)
+found-was e d none q = absurd (Option·none-ne-some d q)
+found-was e d (some b) q = (b, refl, Option·some-injective _ _ q)
 
+module _ (m : Model) (c : Core m) (r : ℕ) where
   drop-keeps : (e : DefunctLock) → findD (m .defunct) (dkey e) ≡ some e → rule9 (made r (m .active) (dropEntry e (m .defunct))) ≡ true → Keeps m (made r (m .active) (dropEntry e (m .defunct)))
   drop-keeps e at p k d f =
       elim (ℕ-discrete k (dkey e)) [

@@ -32,7 +32,7 @@ use Rattle.promises.proofs.Core.{Core, stands-of}
 use Rattle.promises.proofs.Closing.{insert-active-comes, insert-vehicle-comes, renew-comes, acknowledge-comes, expire-defunct-comes}
 use Rattle.promises.proofs.Dropping.{drop-comes}
 use Rattle.stories.specs.Stories.{keepsStories, StoriesKept, unnamed, stated}
-use Rattle.stories.proofs.Changes.{nothing-kept, removed-kept, all-removed-kept, inserted-kept, vehicle-kept, renewed-kept, inserted-unnamed, vehicle-unnamed}
+use Rattle.stories.proofs.Changes.{unchanged-kept, removed-kept, all-removed-kept, inserted-kept, vehicle-kept, renewed-kept, inserted-unnamed, vehicle-unnamed}
 
 -- what is known of lists is known of them as a state
 in-state : (P : Model → Type 0) (n : Model) → P n → P (modelOf (stateOf n))
@@ -47,7 +47,7 @@ module _ (s : LockState) (e : brokenRule s ≡ Sound) where
 
   -- a refusal that leaves the state
   pub stays : StoriesKept s s
-  stays = nothing-kept (modelOf s) core
+  stays = unchanged-kept (modelOf s) core
 
   -- ---- "acknowledgement and defunct expiry, the last-revision refusal included"
   pub acknowledge-story : (i : LockId) → StoriesKept s (acknowledgeOn s i .state)

@@ -5,7 +5,7 @@
 //! differential [OPERATIONS] [SEED] [THREADS]   random states until so many operations were run,
 //!                                              a part of the tiny universe, every byte of a
 //!                                              rich image, the directed conflicts; fails on an
-//!                                              answer seldom seen
+//!                                              answer or a change of a story seldom seen
 //! differential blocks [OPERATIONS] [SEED] [THREADS]   random states, and conflicts at a few ECUs
 //! differential block SEED                      one block of random states again
 //! differential conflicts [THREADS]             locks that overlap at every ECU, and at none
@@ -35,7 +35,7 @@ use oracle::{judge, stories, wire};
 
 /// Each reachable answer is to be seen this often.
 const OFTEN: u64 = 100;
-/// Each telling change of a story is: one operation a state, a few of its entries.
+/// Each change of a story that is wanted is to be seen this often.
 const SOMETIMES: u64 = 10;
 
 fn main() -> ExitCode {
@@ -360,7 +360,7 @@ fn ended(sum: &Tally, seed: u64, threads: u64, start: Instant) {
 fn seldom(sum: &Tally) -> ExitCode {
     let mut code = ExitCode::SUCCESS;
     let answers = REACHABLE.iter().chain(&["0 stale", "0 not due", "0 false"]);
-    let stories = stories::TELLING.iter();
+    let stories = stories::WANTED.iter();
     for (seen, asked) in answers
         .map(|answer| (answer, OFTEN))
         .chain(stories.map(|story| (story, SOMETIMES)))
