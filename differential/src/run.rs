@@ -238,7 +238,7 @@ impl Run {
             let retold = Retold::of(was, now);
             retold.check(&operation, before.state(), after.state());
             self.tally.calls += if was.is_some() { 4 } else { 3 };
-            let label = retold.label(&operation, after.state());
+            let label = retold.label(&operation, before.state(), after.state());
             self.tally.see("stories", label);
         }
     }

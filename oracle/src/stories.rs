@@ -52,11 +52,12 @@ impl Retold {
         );
     }
 
-    /// For a tally: the operation, with (8) at the last revision; whether 02 states it there.
+    /// For a tally: the operation, with (8) where it began at the last revision; whether 02 states
+    /// it there.
     #[must_use]
-    pub fn label(self, operation: &Operation, after: &State) -> String {
+    pub fn label(self, operation: &Operation, before: &State, after: &State) -> String {
         let name = operation.name();
-        let last = if after.revision == u64::MAX {
+        let last = if before.revision == u64::MAX {
             " (8)"
         } else {
             ""

@@ -190,7 +190,8 @@ impl Run {
             let now = stories::told(&mut new, id).expect("it remains");
             let retold = Retold::of(was, now);
             retold.check(operation, before, after);
-            self.seen.see("stories", retold.label(operation, after));
+            self.seen
+                .see("stories", retold.label(operation, before, after));
         }
     }
 
