@@ -4,6 +4,7 @@
 --     first-gone                1 goes, and 2, which remains, tells what it told
 --     last-revision, -expiry    at the last revision 8 is told, and the entry is gone all the same
 --     said                      of clearing and of renewal it is stated, in any order
+--     fed                       so of a record that acknowledges; of one that deletes only where it is out of turn
 --     inserted, vehicle         a vehicle lock of subject 2 supersedes 2, and no entry names its id
 --     old-copy                  a copy of 1 from before tells another holder: it names an entry that is gone
 --     named                     the condition on insertion is needed: lock 3 goes, and one with its id comes, which 2 still names
@@ -11,10 +12,10 @@
 --     replacement               the one that lock 3 came by told another story
 -- Assumes nothing.
 use mathlib.Core.Path.{_≡_, refl}
-use mathlib.Core.Bool.{Bool, true}
-use mathlib.Core.List.{List, [], _∷_}
+use mathlib.Core.Bool.{Bool, true, false}
+use mathlib.Core.List.{List, [], _∷_, _++_}
 use Prim.Native.Nat.{ℕ}
-use lib.ListN.{getD}
+use lib.ListN.{getD, replicate}
 use Rattle.lists.specs.Tests.{_and_, _or_, _imp_, non}
 use Rattle.lists.specs.Below.{allBelow, anyBelow}
 use Rattle.ids.specs.Order.{key, sameId, beforeId}
@@ -42,7 +43,14 @@ use Rattle.operations.specs.Acknowledge.{shedIn, toldAcknowledge, acknowledgedT
 use Rattle.locks.specs.Locks.{dropFoundOn, deleteDefunctOn}
 use Rattle.promises.specs.Steps.{Op, delete, beginExpiration, acknowledge, expireDefunct, stepOn}
 use Rattle.promises.specs.Bench.{idOf, set, insert, insertOver, renewAt, replace}
-use Rattle.takeover.specs.Deeds.{Deed, operation, deleteDefunct, deedOn}
+use Rattle.records.specs.Numbers.{num, valueOf}
+use Rattle.records.specs.Table.{rows, rowOf, unitsIn, possible}
+use Rattle.records.specs.Framing.{frameOf, frameAt}
+use Rattle.records.specs.Feeds.{requestOf, wordsIn}
+use Rattle.calls.specs.Calls.{performOn}
+use Rattle.image.specs.declared.Spare.{Spare}
+use Rattle.feed.specs.Feed.{distance, after, takenAt, actOn, turnOn, stepOn as feedOn}
+use Rattle.takeover.specs.Deeds.{Deed, operation, deleteDefunct, feeding, deedOn}
 use Rattle.stories.specs.Stories.{sameStory, keepsStories, unnamed, stated}
 use Rattle.stories.specs.Deeds.{deedStated, deedsStated}
 
@@ -81,9 +89,16 @@ over = insert 9 Vehicle wholeVehicle 2
 abbrev overAll : Op
 overAll = insertOver 9 2 []
 
+abbrev spare : Spare
+spare = record { state = two; expected = 0 }
+
 -- a renewal, a broken lock dropped by its owner, one acknowledged, one expired
 abbrev clearing : List Deed
 clearing = operation (renewAt 3 0 200) ∷ deleteDefunct (idOf 2) (Ecu 5) 2 ∷ operation (acknowledge (idOf 2)) ∷ operation (expireDefunct 200) ∷ []
+
+-- a record of a kind, with its number, that asks for an id: 22 acknowledges, 19 deletes
+abbrev asking : ℕ → ℕ → ℕ → Deed
+asking kind number i = feeding (22 ∷ 0 ∷ kind ∷ 0 ∷ number ∷ 0 ∷ 0 ∷ 0 ∷ (replicate 15 0 ++ (i ∷ []))) 0
 
 -- entry 1 as it is before another goes
 abbrev copy : DefunctLock
@@ -103,7 +118,8 @@ pub record Computed : Type 0 where
   first-gone : (told (stepOn two (acknowledge (idOf 1))) ≡ 2 ∷ 3 ∷ 0 ∷ []) × (claim two (acknowledge (idOf 1)) ≡ true)
   last-revision : (acknowledgeOn last (idOf 2) .told ≡ acknowledgement.RevisionOverflow) × (told (stepOn last (acknowledge (idOf 2))) ≡ 1 ∷ 3 ∷ 0 ∷ []) × (claim last (acknowledge (idOf 2)) ≡ true)
   last-expiry : (expireDefunctOn last 100 .told .answer ≡ expiry.RevisionOverflow) × (told (stepOn last (expireDefunct 100)) ≡ 1 ∷ 3 ∷ 0 ∷ []) × (claim last (expireDefunct 100) ≡ true)
-  said : deedsStated (record { state = two; expected = 0 }) clearing ≡ true
+  said : deedsStated spare clearing ≡ true
+  fed : (deedsStated spare (asking 22 0 2 ∷ asking 19 5 3 ∷ []) ≡ true) × (deedsStated spare (asking 19 0 3 ∷ []) ≡ false)
   inserted : (told (stepOn two over) ≡ 1 ∷ 3 ∷ 0 ∷ []) × (stated over (modelOf (stepOn two over)) ≡ true) × (claim two over ≡ true)
   vehicle : (told (stepOn two overAll) ≡ 1 ∷ 3 ∷ 0 ∷ []) × (stated overAll (modelOf (stepOn two overAll)) ≡ true) × (claim two overAll ≡ true)
   old-copy : holderOf (modelOf (stepOn two (acknowledge (idOf 2)))) copy ≡ held 2 0
@@ -113,7 +129,7 @@ pub record Computed : Type 0 where
   replacement : (told one ≡ 1 ∷ 2 ∷ 0 ∷ []) × (claim one (broken 2 3 3) ≡ true)
 
 pub computed : Computed
-unfolding _and_ _or_ _imp_ non allBelow anyBelow key sameId beforeId oddWords listedIn wordOf inSet covers overlap within isVehicle isGroup ecuIn scopeCode sameScope hasId hasIdD blankActive blankDefunct normal fits zeroId zeroSet zeroLock isBlankA isBlankD blanks inOrder neatL neatA neatD neat rule0 rule1 rule2 rule3 rule4 rule5 rule6 rule7 clash rule8 meetsNone rule9 brokenRule sound onSound onScope narrow coversDefunct walk holderOf isDone refuseIf andThen redirect other removeD superseded supersede toDefunct childOf inTree treeParts rootParts rootsParts checkList checkId checkScope checkParentActive checkParentVehicle checkParentOwner checkParentCover conflicts checkClear atLast checkRevision checkRoom checkRoot missing checkActive settledLock checkFree checkListed checkOwner checkCover checkChild checkHolder insertedIn judgeInsert closedInsert settledInsert insertActiveWith insertActiveOn nest adopt vehicleIn judgeVehicle insertVehicleWith insertVehicleOn extended extendAt renewedIn judgeRenew renewOn withoutTree deleteFound deleteOn expireFound beginExpirationOn orphan enteredOf replacedIn judgeReplace closedReplace settledReplace commitReplacementWith commitReplacementOn shedIn toldAcknowledge acknowledgedTo acknowledgeOn lapsed shedTo expireDefunctOn stepOn sameStory keepsStories unnamed stated dropFoundOn deleteDefunctOn deedOn deedStated deedsStated
+unfolding _and_ _or_ _imp_ non allBelow anyBelow key sameId beforeId oddWords listedIn wordOf inSet covers overlap within isVehicle isGroup ecuIn scopeCode sameScope hasId hasIdD blankActive blankDefunct normal fits zeroId zeroSet zeroLock isBlankA isBlankD blanks inOrder neatL neatA neatD neat rule0 rule1 rule2 rule3 rule4 rule5 rule6 rule7 clash rule8 meetsNone rule9 brokenRule sound onSound onScope narrow coversDefunct walk holderOf isDone refuseIf andThen redirect other removeD superseded supersede toDefunct childOf inTree treeParts rootParts rootsParts checkList checkId checkScope checkParentActive checkParentVehicle checkParentOwner checkParentCover conflicts checkClear atLast checkRevision checkRoom checkRoot missing checkActive settledLock checkFree checkListed checkOwner checkCover checkChild checkHolder insertedIn judgeInsert closedInsert settledInsert insertActiveWith insertActiveOn nest adopt vehicleIn judgeVehicle insertVehicleWith insertVehicleOn extended extendAt renewedIn judgeRenew renewOn withoutTree deleteFound deleteOn expireFound beginExpirationOn orphan enteredOf replacedIn judgeReplace closedReplace settledReplace commitReplacementWith commitReplacementOn shedIn toldAcknowledge acknowledgedTo acknowledgeOn lapsed shedTo expireDefunctOn stepOn sameStory keepsStories unnamed stated dropFoundOn deleteDefunctOn num valueOf rows rowOf unitsIn possible frameOf frameAt requestOf wordsIn performOn distance after takenAt actOn turnOn feedOn deedOn deedStated deedsStated
 computed =
     record {
       start = refl;
@@ -123,6 +139,7 @@ computed =
       last-revision = (refl, refl, refl);
       last-expiry = (refl, refl, refl);
       said = refl;
+      fed = (refl, refl);
       inserted = (refl, refl, refl);
       vehicle = (refl, refl, refl);
       old-copy = refl;
