@@ -40,11 +40,11 @@ impl Retold {
         }
     }
 
-    /// Panics where a story isn't kept that 02 says is.
+    /// 02's claim on a remaining entry.
     ///
     /// # Panics
     ///
-    /// As said.
+    /// Where a story isn't kept that 02 says is.
     pub fn check(self, operation: &Operation, before: &State, after: &State) {
         assert!(
             matches!(self, Self::Same | Self::Fewer) || !is_stated(operation, after),

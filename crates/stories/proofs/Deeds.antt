@@ -50,7 +50,7 @@ module _ (sp : Spare) (e : brokenRule (sp .state) ≡ Sound) (f : List ℕ) (at 
       let x = numbered p (bodyIn f (p .frame)) in
       turn-comes sp (p .frame .next) x (Tells (taken.Record p)) (λ d y. perform-story (sp .state) e (x .request) (x .list) (imp-e _ _ y (eq-eqb _ _ d))) (λ v g y. stays (sp .state) e)
 
-  pub feed-story : Tells (takenAt f at) (stepOn sp f at)
+  pub feed-story : Yes (takenStated sp f (takenAt f at) (modelOf (stepOn sp f at .spare .state))) → StoriesKept (sp .state) (stepOn sp f at .spare .state)
   feed-story = subst (Tells (takenAt f at)) (sym (step-sound sp f at e)) (taken-story (takenAt f at))
 
 -- ---- one deed, and any number of them
@@ -71,11 +71,11 @@ pub deeds-story : (sp : Spare) → brokenRule (sp .state) ≡ Sound → (ds : Li
 deeds-story sp e ds t = let w = deeds-keep ds sp e t in →keeps (modelOf (sp .state)) (modelOf (afterDeeds sp ds .state)) (defuncts-ascend (afterDeeds sp ds .state) (w .1)) (w .0)
 
 -- in the words of the reads
-pub deeds-told : (sp : Spare) → brokenRule (sp .state) ≡ Sound → (ds : List Deed) → Yes (deedsStated sp ds) → ToldTheSame (sp .state) (afterDeeds sp ds .state)
-deeds-told sp e ds t = told-the-same (sp .state) (afterDeeds sp ds .state) e (deeds-keep ds sp e t .1) (deeds-story sp e ds t)
-
 pub deed-told : (sp : Spare) → brokenRule (sp .state) ≡ Sound → (d : Deed) → Yes (deedStated sp d (modelOf (deedOn sp d .state))) → ToldTheSame (sp .state) (deedOn sp d .state)
 deed-told sp e d t = told-the-same (sp .state) (deedOn sp d .state) e (deed-keeps sp e d) (deed-story sp e d t)
+
+pub deeds-told : (sp : Spare) → brokenRule (sp .state) ≡ Sound → (ds : List Deed) → Yes (deedsStated sp ds) → ToldTheSame (sp .state) (afterDeeds sp ds .state)
+deeds-told sp e ds t = told-the-same (sp .state) (afterDeeds sp ds .state) e (deeds-keep ds sp e t .1) (deeds-story sp e ds t)
 
 -- ---- a run over a feed is such a list
 pub run-deeds : (k : ℕ) (sp : Spare) (f : List ℕ) (at : ℕ) → afterDeeds sp (runDeeds k sp f at) ≡ runOn k sp f at
