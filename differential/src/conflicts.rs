@@ -75,19 +75,7 @@ const HALF: u64 = 5;
 const IN_THE_WAY: u64 = 2;
 
 fn lock(id: [u64; 2], scope: Scope, coverage: Coverage, subject: u16) -> Active {
-    Active {
-        lock: Lock {
-            id: Id::from_words(id[0], id[1]),
-            scope,
-            exclusive: false,
-            coverage,
-            subject,
-            principal: 0,
-            metadata: 0,
-        },
-        expires: 100,
-        parent: None,
-    }
+    Lock::plain(Id::from_words(id[0], id[1]), scope, coverage, subject).until(100)
 }
 
 fn case(there: Coverage, new: Coverage, way: Way) -> (State, Operation) {

@@ -7,7 +7,7 @@ use std::collections::BTreeSet;
 use crate::{
     answer::{Class, Refusal, Seen, Told as Word},
     judge::{self, Event, Judge, Spare},
-    model::{Coverage, Id, Operation, Read, Scope, State, TesterPresent},
+    model::{Coverage, Id, Lock, Operation, Read, Scope, State, TesterPresent},
     names, wire,
 };
 
@@ -507,19 +507,8 @@ pub fn question(read: &Read) -> (u32, u64, u64, Vec<u8>) {
 
 /// An ACTIVE record of which only these three count.
 fn meant(subject: u16, scope: Scope, coverage: Coverage) -> Vec<u8> {
-    wire::active_record(&crate::model::Active {
-        lock: crate::model::Lock {
-            id: Id::default(),
-            scope,
-            exclusive: false,
-            coverage,
-            subject,
-            principal: 0,
-            metadata: 0,
-        },
-        expires: 0,
-        parent: None,
-    })
+    let lock = Lock::plain(Id::default(), scope, coverage, subject);
+    wire::active_record(&lock.until(0))
 }
 
 /// `cablegorse_name_number`.

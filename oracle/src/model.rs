@@ -188,6 +188,32 @@ pub struct Lock {
     pub metadata: u32,
 }
 
+impl Lock {
+    /// A lock of these four parts, the others zero.
+    #[must_use]
+    pub fn plain(id: Id, scope: Scope, coverage: Coverage, subject: u16) -> Self {
+        Self {
+            id,
+            scope,
+            exclusive: false,
+            coverage,
+            subject,
+            principal: 0,
+            metadata: 0,
+        }
+    }
+
+    /// It as an active lock without a parent.
+    #[must_use]
+    pub fn until(self, expires: u64) -> Active {
+        Active {
+            lock: self,
+            expires,
+            parent: None,
+        }
+    }
+}
+
 #[derive(Clone, Copy, Debug, PartialEq, Eq, Hash)]
 pub struct Active {
     pub lock: Lock,

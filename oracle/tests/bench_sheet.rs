@@ -18,20 +18,7 @@ fn ids(locks: &[Active]) -> Vec<Id> {
 }
 
 fn lock(number: u128, scope: Scope, coverage: Coverage, subject: u16) -> Active {
-    let lock = Lock {
-        id: id(number),
-        scope,
-        exclusive: false,
-        coverage,
-        subject,
-        principal: 0,
-        metadata: 0,
-    };
-    Active {
-        lock,
-        expires: 100,
-        parent: None,
-    }
+    Lock::plain(id(number), scope, coverage, subject).until(100)
 }
 
 /// The judge's answer, which the restated 01 gives too.

@@ -13,19 +13,7 @@ fn id(number: u128) -> Id {
 }
 
 fn lock(number: u128, scope: Scope, coverage: Coverage, subject: u16) -> Active {
-    Active {
-        lock: Lock {
-            id: id(number),
-            scope,
-            exclusive: false,
-            coverage,
-            subject,
-            principal: 0,
-            metadata: 0,
-        },
-        expires: 100,
-        parent: None,
-    }
+    Lock::plain(id(number), scope, coverage, subject).until(100)
 }
 
 /// ECU 5, locked by a subject.

@@ -15,23 +15,11 @@ fn id(number: u128) -> Id {
 }
 
 fn lock(number: u128, scope: Scope, coverage: Coverage, subject: u16) -> Lock {
-    Lock {
-        id: id(number),
-        scope,
-        exclusive: false,
-        coverage,
-        subject,
-        principal: 0,
-        metadata: 0,
-    }
+    Lock::plain(id(number), scope, coverage, subject)
 }
 
 fn active(lock: Lock) -> Active {
-    Active {
-        lock,
-        expires: 100,
-        parent: None,
-    }
+    lock.until(100)
 }
 
 fn defunct(lock: Lock, target: Id) -> Defunct {

@@ -31,7 +31,7 @@ use Rattle.promises.specs.Steps.{Op, insertActive, insertVehicle, renew, delete
 use Rattle.promises.proofs.Core.{Core, stands-of}
 use Rattle.promises.proofs.Going.{removeD-shrinks, removeAll-shrinks, supersede-shrinks}
 use Rattle.promises.proofs.Keeping.{made, core-shed}
-use Rattle.promises.proofs.Carried.{insert-holds, vehicle-holds}
+use Rattle.promises.proofs.Carried.{Held, insert-holds, vehicle-holds}
 use Rattle.stories.specs.Stories.{keepsStories, unnamed, stated}
 use Rattle.stories.proofs.Ways.{subjectIn, heldAt}
 use Rattle.stories.proofs.Kept.{→keeps, keeps-refl, keeps-trans, active-keeps, remove-keeps, remove-all-keeps}
@@ -119,15 +119,14 @@ unfolding redirect
 redirect-unnamed i g d f h = cond-both (Unnamed i) _ d (eqb (key (d .target)) (dkey g)) (λ t. f) (λ t. h)
 
 module _ (i : LockId) (m : Model) (t : Yes (unnamed i m)) (x : ActiveLock) where
+  held : Held (λ a. Unit) (Unnamed i) m
+  held = record { active = λ a u. tt; defunct = unnamed→ i m t }
+
   pub inserted-unnamed : Yes (unnamed i (insertedIn m x))
-  inserted-unnamed =
-      →unnamed i (insertedIn m x)
-      (insert-holds (λ a. Unit) (Unnamed i) (λ b a p q. tt) (redirect-unnamed i) m (record { active = λ a u. tt; defunct = unnamed→ i m t }) x tt .defunct)
+  inserted-unnamed = →unnamed i (insertedIn m x) (insert-holds _ _ (λ b a p q. tt) (redirect-unnamed i) m held x tt .defunct)
 
   pub vehicle-unnamed : (ws : List ℕ) → Yes (unnamed i (vehicleIn m x ws))
-  vehicle-unnamed ws =
-      →unnamed i (vehicleIn m x ws)
-      (vehicle-holds (λ a. Unit) (Unnamed i) (λ b a p q. tt) (redirect-unnamed i) m (record { active = λ a u. tt; defunct = unnamed→ i m t }) x ws tt .defunct)
+  vehicle-unnamed ws = →unnamed i (vehicleIn m x ws) (vehicle-holds _ _ (λ b a p q. tt) (redirect-unnamed i) m held x ws tt .defunct)
 
 -- ---- all of a feed's operations, over any limits
 renewal-kept : (m n : Model) (a : Renewal) → Yes (keepsStories m m) → Yes (keepsStories m n) → Yes (keepsStories m (afterRenewal a m n))

@@ -22,8 +22,11 @@ use Rattle.state.proofs.Laws.{model-of-state}
 use Rattle.rules.specs.declared.Verdict.the-variants.{Sound}
 use Rattle.rules.specs.Rules.{brokenRule}
 use Rattle.rules.proofs.Sound.{sound-of}
-use Rattle.operations.specs.Insert.{insertActiveOn}
-use Rattle.operations.specs.Vehicle.{insertVehicleOn}
+use Rattle.operations.specs.declared.answers.Answer.{Answer}
+use Rattle.operations.specs.declared.answers.Answer.the-variants.{Done}
+use Rattle.operations.specs.declared.answers.Inserted.{Inserted}
+use Rattle.operations.specs.Insert.{insertedIn, inserted, insertActiveOn}
+use Rattle.operations.specs.Vehicle.{vehicleIn, insertVehicleOn}
 use Rattle.operations.specs.Renew.{renewOn}
 use Rattle.operations.specs.Acknowledge.{lapsedOf, acknowledgeOn, expireDefunctOn}
 use Rattle.locks.specs.Locks.{deleteDefunctOn}
@@ -61,27 +64,37 @@ module _ (s : LockState) (e : brokenRule s ≡ Sound) where
   delete-defunct-story i k subject = drop-comes (λ r. StoriesKept s (r .state)) s i k subject (λ n. stays) stays stays (acknowledge-story i)
 
   -- ---- "For insertion it is stated only where, after it, no remaining entry names the new id as its replacement"
-  abbrev Put : ActiveLock → Model → Type 0
-  Put y n = Yes (unnamed (y .lock .id) n) → Tells n
+  -- of either insertion: r is what it comes to, n the lists that it leaves where it goes through
+  module _ (y : ActiveLock) (n : Model) (r : Inserted) (comes : (P : Inserted → Type 0) → ((b : Answer) → P (inserted b s)) → P (inserted Done (stateOf n)) → P r)
+      (kept : Yes (unnamed (y .lock .id) n) → Tells n) where
+    put-story : Yes (unnamed (y .lock .id) (modelOf (r .state))) → StoriesKept s (r .state)
+    put-story = comes (λ q. Yes (unnamed (y .lock .id) (modelOf (q .state))) → StoriesKept s (q .state)) (λ b t. stays) (in-state (λ m. Yes (unnamed (y .lock .id) m) → Tells m) n kept)
+
+    -- an id that no entry names before, none names after
+    put-new-story : Yes (unnamed (y .lock .id) (modelOf s)) → Yes (unnamed (y .lock .id) n) → StoriesKept s (r .state)
+    put-new-story t u = put-story (comes (λ q. Yes (unnamed (y .lock .id) (modelOf (q .state)))) (λ b. t) (in-state (λ m. Yes (unnamed (y .lock .id) m)) n u))
+
+  inserts : (y : ActiveLock) (P : Inserted → Type 0) → ((b : Answer) → P (inserted b s)) → P (inserted Done (stateOf (insertedIn (modelOf s) (normal y)))) → P (insertActiveOn s y)
+  inserts y P f g = insert-active-comes P s y (λ b n. f b) (λ d a. g)
 
   pub insert-story : (y : ActiveLock) → Yes (unnamed (y .lock .id) (modelOf (insertActiveOn s y .state))) → StoriesKept s (insertActiveOn s y .state)
   unfolding normal
-  insert-story y = insert-active-comes (λ r. Put y (modelOf (r .state))) s y (λ b n t. stays) (λ d g. in-state (Put y) _ (inserted-kept (modelOf s) core (normal y)))
+  insert-story y = put-story y _ (insertActiveOn s y) (inserts y) (inserted-kept (modelOf s) core (normal y))
+
+  pub insert-new-story : (y : ActiveLock) → Yes (unnamed (y .lock .id) (modelOf s)) → StoriesKept s (insertActiveOn s y .state)
+  unfolding normal
+  insert-new-story y t = put-new-story y _ (insertActiveOn s y) (inserts y) (inserted-kept (modelOf s) core (normal y)) t (inserted-unnamed (y .lock .id) (modelOf s) t (normal y))
+
+  inserts-vehicle : (y : ActiveLock) (ws : List ℕ) (P : Inserted → Type 0) → ((b : Answer) → P (inserted b s)) → P (inserted Done (stateOf (vehicleIn (modelOf s) (normal y) ws))) → P (insertVehicleOn s y ws)
+  inserts-vehicle y ws P f g = insert-vehicle-comes P s y ws (λ b n. f b) (λ d a. g)
 
   pub vehicle-story : (y : ActiveLock) (ws : List ℕ) → Yes (unnamed (y .lock .id) (modelOf (insertVehicleOn s y ws .state))) → StoriesKept s (insertVehicleOn s y ws .state)
   unfolding normal
-  vehicle-story y ws = insert-vehicle-comes (λ r. Put y (modelOf (r .state))) s y ws (λ b n t. stays) (λ d g. in-state (Put y) _ (vehicle-kept (modelOf s) core (normal y) ws))
-
-  -- an id that no entry names before, as one that was never used
-  pub insert-new-story : (y : ActiveLock) → Yes (unnamed (y .lock .id) (modelOf s)) → StoriesKept s (insertActiveOn s y .state)
-  insert-new-story y t =
-      insert-story y (insert-active-comes (λ r. Yes (unnamed (y .lock .id) (modelOf (r .state)))) s y (λ b n. t)
-      (λ d g. in-state (λ n. Yes (unnamed (y .lock .id) n)) _ (inserted-unnamed (y .lock .id) (modelOf s) t (normal y))))
+  vehicle-story y ws = put-story y _ (insertVehicleOn s y ws) (inserts-vehicle y ws) (vehicle-kept (modelOf s) core (normal y) ws)
 
   pub vehicle-new-story : (y : ActiveLock) (ws : List ℕ) → Yes (unnamed (y .lock .id) (modelOf s)) → StoriesKept s (insertVehicleOn s y ws .state)
-  vehicle-new-story y ws t =
-      vehicle-story y ws (insert-vehicle-comes (λ r. Yes (unnamed (y .lock .id) (modelOf (r .state)))) s y ws (λ b n. t)
-      (λ d g. in-state (λ n. Yes (unnamed (y .lock .id) n)) _ (vehicle-unnamed (y .lock .id) (modelOf s) t (normal y) ws)))
+  unfolding normal
+  vehicle-new-story y ws t = put-new-story y _ (insertVehicleOn s y ws) (inserts-vehicle y ws) (vehicle-kept (modelOf s) core (normal y) ws) t (vehicle-unnamed (y .lock .id) (modelOf s) t (normal y) ws)
 
   -- ---- renewal
   pub renew-story : (i : LockId) (t now : ℕ) (has : Bool) (d : ℕ) → StoriesKept s (renewOn s i t now has d .state)

@@ -1,5 +1,6 @@
 -- Where C-20 is stated of whatever is done to a running spare: an operation or delete_defunct in a direct call, or the record
--- at a place of any bytes (crates/takeover, Deed), one after the other. Assumes nothing.
+-- at a place of any bytes (crates/takeover, Deed), one after the other. What 02 asks for stands in Stories.antt; this is for
+-- the theorems that go further. Assumes nothing.
 use mathlib.Core.Bool.{Bool, true, cond}
 use mathlib.Core.List.{List, [], _∷_}
 use Prim.Native.Nat.{ℕ, zero, suc}
