@@ -1,0 +1,12 @@
+pub mod Rows
+pub mod Kept
+pub mod Same
+pub mod Moved
+pub mod Came
+pub mod Theorems
+pub mod Deeds
+pub mod Lowest
+pub mod Covering
+pub mod Filling
+pub mod Followed
+pub mod Boarding

@@ -1,0 +1,4 @@
+pub mod Board
+pub mod Forms
+pub mod Deeds
+pub mod Code
