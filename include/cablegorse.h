@@ -33,6 +33,8 @@ enum {
     CABLEGORSE_ID_BYTES = 16,
     CABLEGORSE_NAME_LIMIT = 64,
     CABLEGORSE_TABLE_BYTES = 16642,
+    CABLEGORSE_BOARD_BYTES = 4352,
+    CABLEGORSE_ENTRY_BYTES = 17, /* a board's, 256 of them */
     /* Outputs of these sizes are never too short: a whole image, 64 ACTIVE records, 128 ids. */
     CABLEGORSE_IMAGE_LIMIT = 19156,
     CABLEGORSE_REMOVED_LIMIT = 5824,
@@ -72,12 +74,14 @@ enum cablegorse_number {
     CABLEGORSE_ECU_LOCKS_HELD = 24,
     CABLEGORSE_FUNCTIONAL_GROUP_LOCKS_HELD = 25,
     CABLEGORSE_FORBIDDEN = 26,
-    CABLEGORSE_BAD_TABLE = 27
+    CABLEGORSE_BAD_TABLE = 27,
+    CABLEGORSE_BOARD_MISMATCH = 28
 };
 
 /* ---- how far a change came. This, and not the number, says what was written. */
 enum cablegorse_part {
-    CABLEGORSE_PART_IMAGE_REFUSED = 0,  /* 17 to 20, 12: nothing was written. Fetch the peer's image. */
+    CABLEGORSE_PART_IMAGE_REFUSED = 0,  /* 17 to 20, 12: nothing was written. Fetch the peer's image. 28, of the forms
+                                           with a board: the image is good, the board is another one's. */
     CABLEGORSE_PART_RECORD_REFUSED = 1, /* 15 to 19: nothing was written. Go on with the image you have. */
     CABLEGORSE_PART_APPLIED = 2,        /* the number is the operation's own answer, and it may be a refusal (1 to 11, 13).
                                            The next image was written: KEEP IT, whatever the number. Its expected number
@@ -231,6 +235,34 @@ enum cablegorse_class {
 };
 
 uint32_t cablegorse_response_class(uint64_t number);
+
+/* ---- the board of control units: CABLEGORSE_BOARD_BYTES bytes that a host keeps beside an image, for a screen that asks
+ * often. ECU e has the CABLEGORSE_ENTRY_BYTES bytes from e * CABLEGORSE_ENTRY_BYTES on: how many active locks cover it (one
+ * byte, at most 64; the whole vehicle is every ECU), then the lowest id among them, 16 bytes as in records, zeros if there
+ * is none. An id of zeros is an id: the count tells.
+ *
+ * The two forms with a board are the functions without one, answer for answer. They want the image's own board, every
+ * byte of it: else 28, after 17 to 20 and 12 and before all else, and every byte of everything is left, the board's too.
+ * Then make the board afresh, and ask why it differed. */
+
+/* The board of an image, in the first CABLEGORSE_BOARD_BYTES bytes of out: 0 and 21 [CABLEGORSE_BOARD_BYTES]; 17 to 20
+ * and 12, as cablegorse_test. What out has beyond a board keeps its bytes. */
+cablegorse_told cablegorse_board(const uint8_t *image, size_t image_len, uint8_t *out, size_t out_len);
+
+/* As cablegorse_apply. Part 2 leaves in board the board of the next image, writing only the entries of ECUs that a lock
+ * which came or went covers; every other part leaves the board, 3 too: all four are written or none. 28 is part 0, and
+ * place stays. */
+cablegorse_applied cablegorse_apply_board(const uint8_t *image, size_t image_len, uint8_t *board, size_t board_len,
+                                          const uint8_t *feed, size_t feed_len, size_t at, uint8_t *next,
+                                          size_t next_len, uint8_t *removed, size_t removed_len, uint8_t *expired,
+                                          size_t expired_len);
+
+/* As cablegorse_delete_defunct. The board is the next image's too, since no active lock comes or goes. 28 is part 0, and
+ * comes before 19. */
+cablegorse_applied cablegorse_delete_defunct_board(const uint8_t *image, size_t image_len, const uint8_t *board,
+                                                   size_t board_len, uint64_t id_first, uint64_t id_second,
+                                                   uint8_t scope_kind, uint8_t scope_number, uint16_t subject,
+                                                   uint8_t *next, size_t next_len);
 
 /* ---- reads */
 /* x, y, record: what the question takes; what it doesn't take is ignored. found: [0] there is none, or [1] and the

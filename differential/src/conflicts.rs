@@ -135,11 +135,8 @@ fn compare(buffers: &mut Buffers, tally: &mut Tally, case: &(State, Operation), 
     let (state, operation) = case;
     let image = wire::write_image(state, 0).expect("a sound state");
     let record = wire::write_feed(operation, 0).expect("a feed operation");
-    let subject = Subject {
-        image: &image,
-        judge: &mut Judge::new(state),
-        expected: 0,
-    };
+    let mut judge = Judge::new(state);
+    let subject = Subject::new(&image, &mut judge, 0);
     let (applied, full) = pair::apply(buffers, &subject, &record, 0, |needed| {
         needed.map(|bytes| bytes + 1)
     });

@@ -12,13 +12,13 @@ use oracle::{
 #[derive(Default)]
 pub struct Buffers {
     pattern: u8,
-    ours: [Vec<u8>; 3],
-    theirs: [Vec<u8>; 3],
+    pub(crate) ours: [Vec<u8>; 3],
+    pub(crate) theirs: [Vec<u8>; 3],
 }
 
 impl Buffers {
     /// Buffers of these lengths, filled anew with another pattern.
-    fn fill(&mut self, lengths: [usize; 3]) {
+    pub(crate) fn fill(&mut self, lengths: [usize; 3]) {
         self.pattern = self.pattern.wrapping_add(0x35) | 1;
         for side in [&mut self.ours, &mut self.theirs] {
             for (buffer, length) in side.iter_mut().zip(lengths) {
@@ -29,7 +29,7 @@ impl Buffers {
     }
 }
 
-fn hex(bytes: &[u8]) -> String {
+pub(crate) fn hex(bytes: &[u8]) -> String {
     bytes.iter().map(|byte| format!("{byte:02x}")).collect()
 }
 
@@ -68,11 +68,25 @@ pub fn followed(followed: library::Followed) -> Followed {
     }
 }
 
-/// An image and the judge that holds its state.
+/// An image, the judge that holds its state, and the judge's board of it.
 pub struct Subject<'a> {
     pub image: &'a [u8],
     pub judge: &'a mut Judge,
     pub expected: u32,
+    pub board: Vec<u8>,
+}
+
+impl<'a> Subject<'a> {
+    #[must_use]
+    pub fn new(image: &'a [u8], judge: &'a mut Judge, expected: u32) -> Self {
+        let board = judge.board();
+        Self {
+            image,
+            judge,
+            expected,
+            board,
+        }
+    }
 }
 
 /// Applies one record on both sides. `lengths` gives the buffers' lengths from those needed.
@@ -172,7 +186,7 @@ fn same_follow(buffers: &mut Buffers, image: &[u8], chunk: &[u8], due: &Followed
     }
 }
 
-fn parts(scope: Scope) -> (u8, u8) {
+pub(crate) fn parts(scope: Scope) -> (u8, u8) {
     match scope {
         Scope::Vehicle => (0, 0),
         Scope::Ecu(ecu) => (1, ecu),

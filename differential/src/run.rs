@@ -4,19 +4,21 @@
 
 use cablegorse::{Refusal, Replica};
 use oracle::{
-    boundary::{self, Told},
+    board,
+    boundary::{self, Full, Told},
     generate::{self, Case, Profile, Rng},
     judge::{Judge, Spare},
     model::{Operation, State},
-    names, small,
+    names, paper, small,
     stories::Retold,
     wire,
 };
 
 use crate::{
+    boards,
     pair::{self, Buffers, Question, Subject},
     stories::Both,
-    tally::{Tally, label},
+    tally::{ENTRIES, Tally, label},
 };
 
 /// Sound states in a block.
@@ -25,6 +27,13 @@ pub const STATES: usize = 64;
 /// Kinds of operation tried on every state, in the order of [`Operation`]; those with the most
 /// answers twice or thrice.
 const KINDS: [usize; 14] = [0, 0, 0, 1, 1, 2, 3, 4, 5, 5, 5, 6, 7, 8];
+
+/// Percent of the tiny universe's operations, and of the stories, that are gone over with a board:
+/// every operation on the other states is.
+const WITH_A_BOARD: usize = 15;
+
+/// The same of damaged and unsound images.
+const DAMAGED_WITH_A_BOARD: usize = 10;
 
 /// One kind is drawn for a state's stories.
 const STORY_KINDS: [usize; 16] = [0, 0, 0, 1, 1, 1, 2, 3, 4, 4, 5, 5, 6, 6, 7, 8];
@@ -46,6 +55,8 @@ const FEED_NAMES: [&str; 8] = [
 /// One thread's state.
 pub struct Run {
     rng: Rng,
+    /// For what is done with boards, so that the rest is the same without it.
+    boards: Rng,
     buffers: Buffers,
     tally: Tally,
 }
@@ -72,9 +83,10 @@ impl Run {
     fn new(seed: u64) -> Self {
         // Neighbouring seeds give unrelated blocks.
         let mut rng = Rng::new(seed);
-        let rng = Rng::new(rng.word());
+        let (rng, boards) = (Rng::new(rng.word()), Rng::new(rng.word()));
         Self {
             rng,
+            boards,
             buffers: Buffers::default(),
             tally: Tally::default(),
         }
@@ -97,14 +109,11 @@ impl Run {
         let image = wire::write_image(&case.state, expected).expect("a sound state");
         let kept = image.clone();
         let mut judge = Judge::new(&case.state);
-        let mut subject = Subject {
-            image: &image,
-            judge: &mut judge,
-            expected,
-        };
+        let mut subject = Subject::new(&image, &mut judge, expected);
         self.tally.states += 1;
         let told = pair::test(&image);
         self.tally.see("test", label(&told));
+        self.board(&subject);
         for kind in KINDS {
             let operation = generate::operation_of(&mut self.rng, &case, kind);
             self.operation(&subject, &operation);
@@ -113,11 +122,12 @@ impl Run {
             self.read(&case, &mut subject, kind);
         }
         self.prepare(&subject);
-        self.odd_scope(&image);
+        self.odd_scope(&subject);
         assert_eq!(image, kept, "a lent image was written");
+        let board = subject.board;
         self.stories(&case);
-        self.damaged(&case, &image);
-        self.unsound(&case, expected);
+        self.damaged(&case, &image, &board);
+        self.unsound(&case, expected, &board);
         if matches!(
             case.profile,
             Profile::Tiny | Profile::Small | Profile::Empty
@@ -146,7 +156,8 @@ impl Run {
                 lengths(rng, [needed, 0, 0])[0]
             });
             self.tally.operations += 1;
-            return self.tally.see("delete_defunct", label(&applied.told));
+            self.tally.see("delete_defunct", label(&applied.told));
+            return self.deletion_with_a_board(subject, operation);
         }
         let sequence = match rng.below(24) {
             0 => subject.expected.wrapping_add(1 + rng.below(3) as u32),
@@ -167,12 +178,59 @@ impl Run {
         if rng.percent(20) {
             feed.extend((0..rng.below(9)).map(|_| rng.word() as u8));
         }
-        let (applied, _) = pair::apply(&mut self.buffers, subject, &feed, before, |needed| {
+        let (applied, full) = pair::apply(&mut self.buffers, subject, &feed, before, |needed| {
             lengths(rng, needed)
         });
         self.tally.operations += 1;
         let name = FEED_NAMES[usize::from(operation.kind().unwrap_or(16) - 16)];
         self.tally.see(name, answer(&applied.told, operation));
+        self.with_a_board(subject, name, (&feed, before), &full);
+    }
+
+    /// The board of a state: 02, C-11.
+    fn board(&mut self, subject: &Subject<'_>) {
+        let short = self.boards.below(board::SIZE);
+        let length = [board::SIZE, board::SIZE, 5000, short][self.boards.below(4)];
+        let told = boards::board(&mut self.buffers, subject, length);
+        self.tally.calls += 1;
+        self.tally.see("board", label(&told));
+    }
+
+    /// A record once more, with the image's board lent; now and then with another board too.
+    fn with_a_board(
+        &mut self,
+        subject: &Subject<'_>,
+        name: &'static str,
+        record: (&[u8], usize),
+        full: &Full,
+    ) {
+        let another = self.another(subject);
+        for lent in another.iter().chain([&subject.board]) {
+            let needed = [&full.next, &full.removed, &full.expired].map(Vec::len);
+            let lengths = lengths(&mut self.boards, needed);
+            let (applied, entries) =
+                boards::apply(&mut self.buffers, subject, lent, record, full, lengths);
+            self.tally.calls += 1;
+            self.tally.see("apply_board", label(&applied.told));
+            self.tally.see_many(ENTRIES, name.to_owned(), entries);
+        }
+    }
+
+    fn deletion_with_a_board(&mut self, subject: &Subject<'_>, operation: &Operation) {
+        let another = self.another(subject);
+        for lent in another.iter().chain([&subject.board]) {
+            let length = lengths(&mut self.boards, [subject.image.len(), 0, 0])[0];
+            let applied =
+                boards::delete_defunct(&mut self.buffers, subject, lent, operation, length);
+            self.tally.calls += 1;
+            self.tally.see("delete_defunct_board", label(&applied.told));
+        }
+    }
+
+    fn another(&mut self, subject: &Subject<'_>) -> Option<Vec<u8>> {
+        let rng = &mut self.boards;
+        rng.percent(10)
+            .then(|| boards::another(rng, &subject.board))
     }
 
     fn read(&mut self, case: &Case, subject: &mut Subject<'_>, kind: usize) {
@@ -219,6 +277,9 @@ impl Run {
             lock.lock.id = case.state.defunct[self.rng.below(case.state.defunct.len())].target;
         }
         let mut before = Both::new(&case.state);
+        if self.boards.percent(WITH_A_BOARD) {
+            before.watch();
+        }
         let Some(mut after) = before.after(&operation) else {
             return;
         };
@@ -251,7 +312,8 @@ impl Run {
     }
 
     /// A scope kind that can't be, or a vehicle with a number.
-    fn odd_scope(&mut self, image: &[u8]) {
+    fn odd_scope(&mut self, subject: &Subject<'_>) {
+        let image = subject.image;
         let scope = [(3, 0), (255, 7), (0, 1), (0, 255)][self.rng.below(4)];
         let id = [self.rng.word(), self.rng.word()];
         let length = self.rng.below(2) * 20_000;
@@ -259,10 +321,18 @@ impl Run {
         self.tally.calls += 1;
         self.tally
             .see("delete_defunct, odd scope", label(&applied.told));
+        if let Some(another) = self.another(subject) {
+            let lent = (image, &another[..]);
+            let applied =
+                boards::delete_defunct_bytes(&mut self.buffers, lent, id, scope, 1, length);
+            self.tally.calls += 1;
+            self.tally
+                .see("delete_defunct_board, odd scope", label(&applied.told));
+        }
     }
 
     /// Damaged images in every function that takes one.
-    fn damaged(&mut self, case: &Case, image: &[u8]) {
+    fn damaged(&mut self, case: &Case, image: &[u8], board: &[u8]) {
         let operation = generate::operation(&mut self.rng, case);
         let record = wire::write_feed(&operation, 0).unwrap_or_default();
         for _ in 0..3 {
@@ -271,15 +341,24 @@ impl Run {
                 generate::damage(&mut self.rng, &mut bytes);
             }
             self.bytes(&bytes, &record);
+            if self.boards.percent(DAMAGED_WITH_A_BOARD) {
+                self.bytes_with_a_board(&bytes, &record, board);
+            }
         }
     }
 
     /// States that break a rule, as images.
-    fn unsound(&mut self, case: &Case, expected: u32) {
+    fn unsound(&mut self, case: &Case, expected: u32, board: &[u8]) {
         for _ in 0..3 {
             let state: State = generate::unsound(&mut self.rng, case);
             let bytes = wire::write_records(&state, expected);
             self.bytes(&bytes, &[]);
+            if self.boards.percent(DAMAGED_WITH_A_BOARD) {
+                // 12 comes first, with its own board and with another.
+                let own = paper::board(&state);
+                let lent = if self.boards.percent(50) { board } else { &own };
+                self.bytes_with_a_board(&bytes, &[], lent);
+            }
         }
     }
 
@@ -324,6 +403,34 @@ impl Run {
         }
     }
 
+    /// The same with a board lent.
+    fn bytes_with_a_board(&mut self, image: &[u8], record: &[u8], board: &[u8]) {
+        let rng = &mut self.boards;
+        self.tally.calls += 1;
+        let length = [0, board::SIZE, 20_000, 20_000][rng.below(4)];
+        let (function, told) = match rng.below(3) {
+            0 => {
+                let told = boards::board_bytes(&mut self.buffers, image, length);
+                ("board of a damaged image", told)
+            }
+            1 => {
+                let lengths = [length, 5824, 2048];
+                let feed = (record, 0);
+                let applied = boards::apply_bytes(&mut self.buffers, image, board, feed, lengths);
+                ("apply_board to a damaged image", applied.told)
+            }
+            _ => {
+                let id = [0, rng.below(4) as u64];
+                let scope = (rng.below(4) as u8, 0);
+                let lent = (image, board);
+                let applied =
+                    boards::delete_defunct_bytes(&mut self.buffers, lent, id, scope, 1, length);
+                ("delete_defunct_board, damaged image", applied.told)
+            }
+        };
+        self.tally.see(function, label(&told));
+    }
+
     /// A feed over a link that loses, repeats, reorders and damages, followed by the boundary
     /// and by the safe wrapper: record by record, and whole.
     fn feed(&mut self, case: &Case, expected: u32) {
@@ -334,15 +441,18 @@ impl Run {
         let image = wire::write_image(&case.state, expected).expect("a sound state");
         let mut spare = Replica::from_image(&image).expect("a sound state");
         let mut whole = spare.clone();
+        // A replica with a board goes other ways through the library.
+        for replica in [&mut spare, &mut whole] {
+            if self.boards.percent(50) {
+                replica.watch();
+            }
+        }
         let (mut state, mut number, mut at) = (case.state.clone(), expected, 0);
         loop {
             let image = spare.image().to_vec();
             let mut judge = Judge::new(&state);
-            let subject = Subject {
-                image: &image,
-                judge: &mut judge,
-                expected: number,
-            };
+            let subject = Subject::new(&image, &mut judge, number);
+            self.kept_board(&spare, &subject.board);
             let rng = &mut self.rng;
             let (_, full) = pair::apply(&mut self.buffers, &subject, &feed, at, |needed| {
                 needed.map(|bytes| bytes + rng.below(3))
@@ -363,6 +473,17 @@ impl Run {
         let run = self.followed(&image, case, expected, &feed);
         check_run(&whole.follow(&feed), &run, &whole);
         assert_eq!(whole.image(), spare.image(), "a chunk isn't its records");
+        let board = board::board(&state);
+        self.kept_board(&spare, &board);
+        self.kept_board(&whole, &board);
+    }
+
+    /// The board that a replica kept over its records, where it keeps one.
+    fn kept_board(&mut self, replica: &Replica, due: &[u8]) {
+        if let Some(board) = replica.board() {
+            assert_eq!(board[..], *due, "a kept board isn't the state's");
+            self.tally.see("boards of replicas", "the same".to_owned());
+        }
     }
 
     /// A chunk on any state, cut at a random place more often than not.
@@ -544,11 +665,7 @@ impl Run {
             run.tally.states += 1;
             let image = wire::write_image(state, 0).expect("a sound state");
             let mut judge = Judge::new(state);
-            let subject = Subject {
-                image: &image,
-                judge: &mut judge,
-                expected: 0,
-            };
+            let subject = Subject::new(&image, &mut judge, 0);
             for operation in operations {
                 if matches!(operation, Operation::DeleteDefunct { .. }) {
                     let applied =
@@ -557,11 +674,14 @@ impl Run {
                         });
                     run.tally.see("tiny: delete_defunct", label(&applied.told));
                 } else if let Some(record) = wire::write_feed(operation, 0) {
-                    let (applied, _) =
+                    let (applied, full) =
                         pair::apply(&mut run.buffers, &subject, &record, 0, |needed| {
                             needed.map(|bytes| bytes + 1)
                         });
                     run.tally.see("tiny: apply", label(&applied.told));
+                    if run.boards.percent(WITH_A_BOARD) {
+                        run.with_a_board(&subject, "tiny: apply", (&record, 0), &full);
+                    }
                 }
                 run.tally.operations += 1;
             }
@@ -598,11 +718,7 @@ impl Run {
         let mut run = Self::new(11);
         let (state, expected) = wire::read_image(image).expect("an image");
         let mut judge = Judge::new(&state);
-        let subject = Subject {
-            image,
-            judge: &mut judge,
-            expected,
-        };
+        let subject = Subject::new(image, &mut judge, expected);
         let longer = |needed: [usize; 3]| needed.map(|bytes| bytes + 2);
         for at in 0..record.len() {
             let mut bytes = record.to_vec();
@@ -627,11 +743,7 @@ impl Run {
         let mut run = Self::new(13);
         let (state, expected) = wire::read_image(image).expect("an image");
         let mut judge = Judge::new(&state);
-        let subject = Subject {
-            image,
-            judge: &mut judge,
-            expected,
-        };
+        let subject = Subject::new(image, &mut judge, expected);
         let longer = |needed: [usize; 3]| needed.map(|bytes| bytes + 2);
         // The longest record says 1131: a replacement with 64 roots.
         for length in (0u16..1160).chain([65_535]) {
@@ -656,6 +768,45 @@ impl Run {
                 run.tally.see("every length", label(&applied.told));
                 run.tally.operations += 1;
             }
+        }
+        run.tally
+    }
+
+    /// Every byte of the image's board changed, and every other size, with a record that is due.
+    #[must_use]
+    pub fn every_board_byte(image: &[u8], record: &[u8]) -> Tally {
+        let mut run = Self::new(19);
+        let (state, expected) = wire::read_image(image).expect("an image");
+        let mut judge = Judge::new(&state);
+        let subject = Subject::new(image, &mut judge, expected);
+        let full = boundary::step(subject.judge, expected, record, 0);
+        assert_eq!(full.applied.part, 2, "it is due");
+        let own = subject.board.clone();
+        let changed = (0..own.len()).map(|at| {
+            let mut board = own.clone();
+            board[at] = own[at].wrapping_add(1 + (at % 255) as u8);
+            board
+        });
+        let sizes = (0..own.len() + 20).filter(|size| *size != own.len());
+        let resized = sizes.map(|size| {
+            let mut board = own.clone();
+            board.resize(size, 0);
+            board
+        });
+        for lent in changed.chain(resized) {
+            let lengths = [20_000, 6_000, 2_100];
+            let (applied, _) = boards::apply(
+                &mut run.buffers,
+                &subject,
+                &lent,
+                (record, 0),
+                &full,
+                lengths,
+            );
+            assert_eq!(applied.told.number, 28);
+            run.tally
+                .see("board, one byte or its size changed", label(&applied.told));
+            run.tally.calls += 1;
         }
         run.tally
     }
@@ -688,11 +839,7 @@ impl Run {
         let mut run = Self::new(17);
         let (state, expected) = wire::read_image(image).expect("an image");
         let mut judge = Judge::new(&state);
-        let mut subject = Subject {
-            image,
-            judge: &mut judge,
-            expected,
-        };
+        let mut subject = Subject::new(image, &mut judge, expected);
         let subjects: Vec<u64> = state
             .active
             .iter()

@@ -29,6 +29,11 @@ impl Both {
         }
     }
 
+    /// From now on the library's side keeps a board (02, C-11).
+    pub fn watch(&mut self) {
+        self.library.watch();
+    }
+
     #[must_use]
     pub fn state(&self) -> &State {
         self.original.state()
@@ -38,7 +43,7 @@ impl Both {
     ///
     /// # Panics
     ///
-    /// Where the two images differ.
+    /// Where the two images differ, or the two boards where one is kept.
     #[must_use]
     pub fn after(&self, operation: &Operation) -> Option<Self> {
         let original = Judge::new(&self.original.apply(operation).state);
@@ -54,6 +59,9 @@ impl Both {
         }
         let image = wire::write_image(original.state(), library.expected());
         assert_eq!(image.as_deref(), Ok(library.image()), "{operation:?}");
+        if let Some(board) = library.board() {
+            assert_eq!(board[..], original.board(), "{operation:?}");
+        }
         Some(Self { library, original })
     }
 

@@ -3,7 +3,7 @@
 //! between that loses, repeats, delays and reorders records by a seed. The spare applies record by
 //! record in some rounds and follows what a read brought as a whole in others. The primary is
 //! killed at a random moment and the spare takes over; its image is held to the primary's byte for
-//! byte.
+//! byte, and so is the board that it keeps in some rounds.
 //!
 //! ```text
 //! drill [TAKEOVERS] [SEED]
@@ -88,11 +88,18 @@ fn summary(sums: &Sums, seed: u64, start: Instant) {
         sums.torn
     );
     println!(
-        "at takeover {:.1} records behind on average, {} at most; the number wrapped {} times; {} rivals refused",
+        "at takeover {:.1} records behind on average, {} at most; the number wrapped {} times; {} rivals refused; {} boards as made afresh, {} of them as the primary's",
         sums.behind as f64 / sums.takeovers.max(1) as f64,
         sums.most_behind,
         sums.wraps,
-        sums.refused_rivals
+        sums.refused_rivals,
+        sums.boards,
+        sums.boards_of_two
+    );
+    // Half of the spares watch, so twenty takeovers without a board would be another drill.
+    assert!(
+        sums.takeovers < 20 || sums.boards > 0,
+        "no spare kept a board"
     );
     println!(
         "drill: {} takeovers, {} records made, {} applied, 0 out of turn, 0 images differ, 0 double holders, seed {seed}, {:.0} s",

@@ -16,7 +16,7 @@ use cablegorse::Replica;
 
 use drill::{rng::Rng, work};
 
-use crate::wire::{Entry, Wish};
+use crate::wire::{Entry, Made, Wish};
 
 /// Records in flight, at most.
 const WINDOW: usize = 24;
@@ -39,7 +39,11 @@ pub fn run(seed: u64, clock: u64, book: &str) -> io::Result<()> {
     input.read_exact(&mut length)?;
     let mut image = vec![0; u32::from_le_bytes(length) as usize];
     input.read_exact(&mut image)?;
-    let state = Replica::from_image(&image).map_err(io::Error::other)?;
+    let mut state = Replica::from_image(&image).map_err(io::Error::other)?;
+    // Half of the primaries keep a board.
+    if seed.is_multiple_of(2) {
+        state.watch();
+    }
     let wishes = listen(input);
     let first = state.expected();
     let mut primary = Primary {
@@ -88,14 +92,15 @@ impl Primary {
     fn perform(&mut self, rng: &mut Rng, clock: u64) -> io::Result<()> {
         let operation = work::operation(rng, &self.state, clock);
         let (record, _) = self.state.perform(&operation).map_err(io::Error::other)?;
-        let made = Entry::Made {
-            record,
+        let made = Entry::Made(Made {
+            record: record.clone(),
             image: self.state.image().to_vec(),
-        };
+            board: self
+                .state
+                .board()
+                .map_or(Vec::new(), |board| board.to_vec()),
+        });
         self.book.write_all(&made.encode())?;
-        let Entry::Made { record, .. } = made else {
-            return Ok(());
-        };
         self.out.write_all(&record)?;
         self.out.flush()?;
         self.flight.push_back(record);

@@ -14,6 +14,7 @@ use std::{
 
 use cablegorse::{
     Active, Coverage, Lock, LockId, Operation, Overlap, Refusal, Replica, Run, Scope,
+    library::{self, BOARD_BYTES},
 };
 
 use drill::{
@@ -22,7 +23,7 @@ use drill::{
     work,
 };
 
-use crate::wire::{Entry, Wish, records, sequence};
+use crate::wire::{Entry, Made, Wish, records, sequence};
 
 /// What a round, or many, saw.
 #[derive(Default)]
@@ -41,6 +42,8 @@ pub struct Sums {
     pub most_behind: u64,
     pub wraps: u64,
     pub refused_rivals: u64,
+    pub boards: u64,
+    pub boards_of_two: u64,
 }
 
 /// A round's outcome: why it failed.
@@ -92,6 +95,12 @@ impl Side<'_> {
     /// One round: a new primary begins with our image; it is killed; we take over.
     pub fn round(&mut self, seed: u64) -> Outcome {
         let rng = &mut Rng::new(seed);
+        // With a board the spare goes other ways through the library, so not in every round.
+        if rng.percent(40) {
+            self.spare.unwatch();
+        } else if self.spare.board().is_none() {
+            self.spare.watch();
+        }
         let begin = self.spare.clone();
         let (child, to) = self.start(rng.word())?;
         let mut link = Link::new(
@@ -348,11 +357,11 @@ impl Side<'_> {
             Err(error) => return Err(failed("the primary's book", &error)),
         };
         let _ = fs::remove_file(self.book);
-        let mut made: Vec<(Vec<u8>, Vec<u8>)> = Vec::new();
+        let mut made: Vec<Made> = Vec::new();
         let mut confirmed = begin.expected();
         for entry in Entry::decode_all(&book) {
             match entry {
-                Entry::Made { record, image } => made.push((record, image)),
+                Entry::Made(entry) => made.push(entry),
                 Entry::Confirmed { expected } => confirmed = expected,
             }
         }
@@ -361,18 +370,17 @@ impl Side<'_> {
         if applied.len() > made.len() {
             return Err("more was applied than was made".to_owned());
         }
-        for (place, (ours, (theirs, _))) in applied.iter().zip(&made).enumerate() {
-            if ours != theirs {
+        for (place, (ours, theirs)) in applied.iter().zip(&made).enumerate() {
+            if *ours != theirs.record {
                 return Err(format!("record {place} of the round isn't the primary's"));
             }
         }
-        let image = match applied.len() {
-            0 => begin.image(),
-            count => &made[count - 1].1,
-        };
+        let last = applied.len().checked_sub(1).map(|place| &made[place]);
+        let image = last.map_or(begin.image(), |made| &made.image);
         if self.spare.image() != image {
             return Err("the spare's image isn't the primary's at that record".to_owned());
         }
+        self.judge_board(last.map_or(&[], |made| &made.board))?;
         // What testers were told of is here.
         let known = confirmed.wrapping_sub(begin.expected());
         if known as usize > applied.len() {
@@ -381,6 +389,26 @@ impl Side<'_> {
         let behind = (made.len() - applied.len()) as u64;
         self.sums.behind += behind;
         self.sums.most_behind = self.sums.most_behind.max(behind);
+        Ok(())
+    }
+
+    /// The board that the spare kept over the whole feed is a fresh one, and the primary's where
+    /// that kept one.
+    fn judge_board(&mut self, primary: &[u8]) -> Outcome {
+        let Some(board) = self.spare.board() else {
+            return Ok(());
+        };
+        let mut fresh = [0; BOARD_BYTES];
+        if library::board(self.spare.image(), &mut fresh).number != 0 || *board != fresh {
+            return Err("the spare's board isn't its image's".to_owned());
+        }
+        self.sums.boards += 1;
+        if !primary.is_empty() {
+            if board[..] != *primary {
+                return Err("the spare's board isn't the primary's at that record".to_owned());
+            }
+            self.sums.boards_of_two += 1;
+        }
         Ok(())
     }
 

@@ -43,26 +43,37 @@ impl Wish {
     }
 }
 
-/// An entry of the primary's book, which only the referee reads: a record with the image after
-/// it, or how far records were confirmed to testers.
+/// An entry of the primary's book, which only the referee reads: what it made, or how far records
+/// were confirmed to testers.
 pub enum Entry {
-    Made { record: Vec<u8>, image: Vec<u8> },
+    Made(Made),
     Confirmed { expected: u32 },
+}
+
+/// A record with the image after it, and the board where the primary keeps one.
+pub struct Made {
+    pub record: Vec<u8>,
+    pub image: Vec<u8>,
+    pub board: Vec<u8>,
 }
 
 impl Entry {
     pub fn encode(&self) -> Vec<u8> {
         let mut bytes = Vec::new();
         match self {
-            Self::Made { record, image } => {
-                bytes.extend((record.len() as u32).to_le_bytes());
-                bytes.extend((image.len() as u32).to_le_bytes());
-                bytes.extend_from_slice(record);
-                bytes.extend_from_slice(image);
+            Self::Made(made) => {
+                let parts = [&made.record, &made.image, &made.board];
+                for part in parts {
+                    bytes.extend((part.len() as u32).to_le_bytes());
+                }
+                for part in parts {
+                    bytes.extend_from_slice(part);
+                }
             }
             Self::Confirmed { expected } => {
-                bytes.extend(0u32.to_le_bytes());
-                bytes.extend(expected.to_le_bytes());
+                for number in [0, *expected, 0] {
+                    bytes.extend(number.to_le_bytes());
+                }
             }
         }
         bytes
@@ -72,25 +83,25 @@ impl Entry {
     pub fn decode_all(book: &[u8]) -> Vec<Self> {
         let mut entries = Vec::new();
         let mut rest = book;
-        while let Some((head, after)) = rest.split_first_chunk::<8>() {
-            let [a, b, c, d, e, f, g, h] = *head;
-            let (first, second) = (
-                u32::from_le_bytes([a, b, c, d]),
-                u32::from_le_bytes([e, f, g, h]),
-            );
-            if first == 0 {
-                entries.push(Self::Confirmed { expected: second });
+        while let Some((head, after)) = rest.split_first_chunk::<12>() {
+            let number =
+                |at| u32::from_le_bytes([head[at], head[at + 1], head[at + 2], head[at + 3]]);
+            let [record, image, board] = [0, 4, 8].map(|at| number(at) as usize);
+            if record == 0 {
+                entries.push(Self::Confirmed {
+                    expected: number(4),
+                });
                 rest = after;
                 continue;
             }
-            let (record, image) = (first as usize, second as usize);
-            let Some((body, after)) = after.split_at_checked(record + image) else {
+            let Some((body, after)) = after.split_at_checked(record + image + board) else {
                 break;
             };
-            entries.push(Self::Made {
+            entries.push(Self::Made(Made {
                 record: body[..record].to_vec(),
-                image: body[record..].to_vec(),
-            });
+                image: body[record..record + image].to_vec(),
+                board: body[record + image..].to_vec(),
+            }));
             rest = after;
         }
         entries

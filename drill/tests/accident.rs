@@ -98,6 +98,11 @@ fn a_backup_by_arrival_drifts() {
         );
         let mut primary = Replica::empty();
         let (mut backup, mut spare) = (Backup(Replica::empty()), Replica::empty());
+        // Every other time with boards.
+        if seed % 2 == 1 {
+            primary.watch();
+            spare.watch();
+        }
         // A second spare, which follows as chunks what the first applies record by record.
         let mut whole = Replica::empty();
         let mut book: Vec<Vec<u8>> = Vec::new();
@@ -128,6 +133,7 @@ fn a_backup_by_arrival_drifts() {
             assert_eq!(whole, spare, "seed {seed}");
         }
         assert_eq!(spare.image(), primary.image(), "seed {seed}");
+        assert_eq!(spare.board(), primary.board(), "seed {seed}");
         drifted += u64::from(locks(&backup.0) != locks(&primary));
     }
     println!("by arrival {drifted} of {rounds} backups drifted, by sequence none");

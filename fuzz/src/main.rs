@@ -1,5 +1,5 @@
 // SPDX-License-Identifier: Apache-2.0
-//! A libFuzzer target over the boundary: any bytes as image, feed, record and name table. Every
+//! A libFuzzer target over the boundary: any bytes as image, board, feed, record and name table. Every
 //! answer, and every byte of every buffer, is held to the judge's. The library is handed slices
 //! that end where a page without access begins, so that a read or write past them is a crash.
 //! Coverage comes from the judge, since the proved archive carries none.
@@ -10,7 +10,7 @@ use std::{ffi::c_void, ptr};
 
 use cablegorse::library;
 use differential::pair::{applied, followed, told};
-use oracle::boundary;
+use oracle::{board, boundary};
 
 unsafe extern "C" {
     fn mmap(
@@ -63,7 +63,7 @@ impl Fence {
     }
 }
 
-static FENCES: std::sync::LazyLock<[Fence; 5]> =
+static FENCES: std::sync::LazyLock<[Fence; 6]> =
     std::sync::LazyLock::new(|| std::array::from_fn(|_| Fence::new()));
 
 /// How long an output buffer is: mostly enough.
@@ -95,24 +95,31 @@ pub unsafe extern "C" fn LLVMFuzzerTestOneInput(data: *const u8, size: usize) ->
     if first.len() > ROOM || second.len() > ROOM {
         return 0;
     }
-    match function % 7 {
+    match function % 9 {
         0 | 1 => apply(first, second, usize::from(*extra), *choice),
         2 => read(first, second, u32::from(*extra), *choice),
         3 => delete_defunct(first, second, *choice),
         4 => test(first, u64::from(*extra)),
         5 => names(first, second, *extra, *choice),
-        _ => follow(first, second, *choice),
+        6 => follow(first, second, *choice),
+        7 => apply_board(first, second, usize::from(*extra), *choice),
+        _ => delete_defunct_board(first, second, *choice),
     }
     0
 }
 
-fn apply(image: &[u8], feed: &[u8], at: usize, choice: u8) {
-    let lengths = [
+/// Lengths of next, removed and expired.
+fn lengths(choice: u8) -> [usize; 3] {
+    [
         length(choice, 19_156),
         length(choice / 3, 5_824),
         length(choice / 7, 2_048),
-    ];
-    let [i, f, n, r, e] = &*FENCES;
+    ]
+}
+
+fn apply(image: &[u8], feed: &[u8], at: usize, choice: u8) {
+    let lengths = lengths(choice);
+    let [i, f, n, r, e, _] = &*FENCES;
     let (next, removed, expired) = (
         n.slice(lengths[0], 0xa5),
         r.slice(lengths[1], 0xa5),
@@ -140,6 +147,70 @@ fn apply(image: &[u8], feed: &[u8], at: usize, choice: u8) {
         let tested = library::test(image);
         assert_eq!(tested.number, 0, "an image it wrote itself");
         assert_eq!(tested.values[1] as u32, got.sequence.wrapping_add(1));
+    }
+}
+
+/// The board to lend and what is left of the input. It is the image's own, or zeros where that is
+/// none: nobody would hit one by chance. The first byte says how many bytes of it are changed (each
+/// by a place, 2 bytes, and the bits) and whether its size is another.
+fn lent<'a>(image: &[u8], input: &'a [u8]) -> (Vec<u8>, &'a [u8]) {
+    let mut board = vec![0; board::SIZE];
+    let _ = boundary::board(image, &mut board);
+    let Some((how, mut rest)) = input.split_first() else {
+        return (board, input);
+    };
+    for _ in 0..how % 4 {
+        let [low, high, bits, more @ ..] = rest else {
+            break;
+        };
+        let at = usize::from(u16::from_le_bytes([*low, *high])) % board.len();
+        board[at] ^= bits;
+        rest = more;
+    }
+    match how / 4 % 16 {
+        0 => board.truncate(usize::from(*how) * 17),
+        1 => board.truncate(board::SIZE - 1),
+        2 => board.push(0),
+        _ => {}
+    }
+    (board, rest)
+}
+
+fn apply_board(image: &[u8], input: &[u8], at: usize, choice: u8) {
+    let (lent, feed) = lent(image, input);
+    let lengths = lengths(choice);
+    let [i, f, n, r, e, b] = &*FENCES;
+    let (next, removed, expired) = (
+        n.slice(lengths[0], 0xa5),
+        r.slice(lengths[1], 0xa5),
+        e.slice(lengths[2], 0xa5),
+    );
+    let ours = b.holding(&lent);
+    let got = applied(library::apply_board(
+        i.holding(image),
+        ours,
+        f.holding(feed),
+        at,
+        next,
+        removed,
+        expired,
+    ));
+    let mut theirs = lengths.map(|length| vec![0xa5; length]);
+    let [a, b, c] = &mut theirs;
+    let mut kept = lent;
+    let due = boundary::apply_board(image, &mut kept, feed, at, a, b, c);
+    assert_eq!(got, due, "apply_board");
+    assert!(
+        theirs == [next.to_vec(), removed.to_vec(), expired.to_vec()],
+        "apply_board's buffers"
+    );
+    assert!(kept == ours, "apply_board's board");
+    if got.part == 2 {
+        // What it left is the board of what it wrote.
+        let mut fresh = vec![0; board::SIZE];
+        let made = library::board(&next[..got.written as usize], &mut fresh);
+        assert_eq!(made.number, 0, "an image it wrote itself");
+        assert!(fresh == ours, "the board of the next image");
     }
 }
 
@@ -183,14 +254,42 @@ fn read(image: &[u8], rest: &[u8], question: u32, choice: u8) {
     assert!(theirs == out, "read's buffer");
 }
 
-fn delete_defunct(image: &[u8], rest: &[u8], choice: u8) {
+/// Id, scope and subject of a deletion; what is missing is zero.
+fn deletion(rest: &[u8]) -> ([u64; 2], (u8, u8), u16) {
     let mut bytes = [0; 20];
     let count = rest.len().min(20);
     bytes[..count].copy_from_slice(&rest[..count]);
     let [id @ .., kind, number, s0, s1] = bytes;
     let id = u128::from_be_bytes(id);
     let id = [(id >> 64) as u64, id as u64];
-    let subject = u16::from_le_bytes([s0, s1]);
+    (id, (kind, number), u16::from_le_bytes([s0, s1]))
+}
+
+/// The board is only read; one of the image is made beside it.
+fn delete_defunct_board(image: &[u8], input: &[u8], choice: u8) {
+    let (lent, rest) = lent(image, input);
+    let (id, (kind, number), subject) = deletion(rest);
+    let length = length(choice, 19_156);
+    let [i, n, o, b, ..] = &*FENCES;
+    let (image, next, board) = (i.holding(image), n.slice(length, 0xa5), b.holding(&lent));
+    let scope = (kind, number);
+    let got = library::delete_defunct_board(image, board, id, scope, subject, next);
+    let mut theirs = vec![0xa5; length];
+    let due = boundary::delete_defunct_board(image, &lent, id, kind, number, subject, &mut theirs);
+    assert_eq!(applied(got), due, "delete_defunct_board");
+    assert!(theirs == next, "delete_defunct_board's buffer");
+    assert!(lent == board, "delete_defunct_board's board");
+
+    let room = self::length(choice / 3, board::SIZE + usize::from(choice % 2));
+    let out = o.slice(room, 0xa5);
+    let mut theirs = vec![0xa5; room];
+    let due = boundary::board(image, &mut theirs);
+    assert_eq!(told(library::board(image, out)), due, "board");
+    assert!(theirs == out, "board's buffer");
+}
+
+fn delete_defunct(image: &[u8], rest: &[u8], choice: u8) {
+    let (id, (kind, number), subject) = deletion(rest);
     let length = length(choice, 19_156);
     let [i, n, ..] = &*FENCES;
     let next = n.slice(length, 0xa5);

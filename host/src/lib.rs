@@ -13,5 +13,6 @@ pub use record::{ACTIVE_BYTES, DEFUNCT_BYTES, HEAD_BYTES, LIST_LIMIT, ListTooLon
 pub use refusal::{Reason, Refusal, ResponseClass, response_class};
 pub use replica::{Done, Replica, Run, Step};
 pub use types::{
-    Active, BadUuid, Coverage, Defunct, EcuSet, Holder, Lock, LockId, Overlap, Scope, TesterPresent,
+    Active, BadUuid, Coverage, Defunct, EcuSet, Holder, Lock, LockId, OnEcu, Overlap, Scope,
+    TesterPresent,
 };

@@ -14,6 +14,10 @@ pub const IMAGE_LIMIT: usize = 20 + 64 * 91 + 128 * 104;
 pub const REMOVED_LIMIT: usize = 64 * 91;
 /// Bytes of the most expired ids, 128 of 16 bytes.
 pub const EXPIRED_LIMIT: usize = 128 * 16;
+/// Bytes of a board's entry: the count, and the id.
+pub const ENTRY_BYTES: usize = 1 + 16;
+/// Bytes of a board of control units, an entry for each ECU ([`crate::OnEcu`] reads one).
+pub const BOARD_BYTES: usize = 256 * ENTRY_BYTES;
 
 /// The reads by their numbers, for [`read`]. What each takes and answers: include/cablegorse.h.
 pub mod question {
@@ -51,7 +55,8 @@ pub mod question {
 #[derive(Clone, Copy, Debug, PartialEq, Eq, Hash)]
 #[non_exhaustive]
 pub enum Part {
-    /// 0: the image was refused (17 to 20, 12). Nothing was written.
+    /// 0: the image was refused (17 to 20, 12), or the board that was lent isn't its own (28).
+    /// Nothing was written.
     ImageRefused = 0,
     /// 1: the record was refused (17 to 19) or is out of turn (15, 16), or an argument can't be
     /// (19). Nothing was written.
@@ -280,6 +285,40 @@ mod raw {
             next: *mut u8,
             next_len: usize,
         ) -> Applied;
+        pub fn cablegorse_board(
+            image: *const u8,
+            image_len: usize,
+            out: *mut u8,
+            out_len: usize,
+        ) -> Told;
+        pub fn cablegorse_apply_board(
+            image: *const u8,
+            image_len: usize,
+            board: *mut u8,
+            board_len: usize,
+            feed: *const u8,
+            feed_len: usize,
+            at: usize,
+            next: *mut u8,
+            next_len: usize,
+            removed: *mut u8,
+            removed_len: usize,
+            expired: *mut u8,
+            expired_len: usize,
+        ) -> Applied;
+        pub fn cablegorse_delete_defunct_board(
+            image: *const u8,
+            image_len: usize,
+            board: *const u8,
+            board_len: usize,
+            hi: u64,
+            lo: u64,
+            kind: u8,
+            number: u8,
+            subject: u16,
+            next: *mut u8,
+            next_len: usize,
+        ) -> Applied;
         pub fn cablegorse_prepare_runtime_update(
             image: *const u8,
             image_len: usize,
@@ -382,6 +421,78 @@ pub fn delete_defunct(
         raw::cablegorse_delete_defunct(
             image.as_ptr(),
             image.len(),
+            id[0],
+            id[1],
+            scope.0,
+            scope.1,
+            subject,
+            next.as_mut_ptr(),
+            next.len(),
+        )
+    };
+    Applied::from_raw(raw)
+}
+
+/// The board of control units of an image, in the first [`BOARD_BYTES`] bytes of `out`: 0 or 21
+/// with that size, or the image's refusal.
+#[must_use]
+pub fn board(image: &[u8], out: &mut [u8]) -> Told {
+    // SAFETY: as in `apply`.
+    unsafe { raw::cablegorse_board(image.as_ptr(), image.len(), out.as_mut_ptr(), out.len()) }
+}
+
+/// [`apply`] with the image's board, which becomes the next image's where the record was applied,
+/// and is left where it wasn't. 28 and [`Part::ImageRefused`] where it isn't the image's own, or
+/// has another size: nothing was written then, the board neither.
+#[must_use]
+pub fn apply_board(
+    image: &[u8],
+    board: &mut [u8],
+    feed: &[u8],
+    at: usize,
+    next: &mut [u8],
+    removed: &mut [u8],
+    expired: &mut [u8],
+) -> Applied {
+    // SAFETY: as in `apply`; the board is a fourth buffer.
+    let raw = unsafe {
+        raw::cablegorse_apply_board(
+            image.as_ptr(),
+            image.len(),
+            board.as_mut_ptr(),
+            board.len(),
+            feed.as_ptr(),
+            feed.len(),
+            at,
+            next.as_mut_ptr(),
+            next.len(),
+            removed.as_mut_ptr(),
+            removed.len(),
+            expired.as_mut_ptr(),
+            expired.len(),
+        )
+    };
+    Applied::from_raw(raw)
+}
+
+/// [`delete_defunct`] with the image's board, which is the next image's too: no active lock comes
+/// or goes. 28 as in [`apply_board`].
+#[must_use]
+pub fn delete_defunct_board(
+    image: &[u8],
+    board: &[u8],
+    id: [u64; 2],
+    scope: (u8, u8),
+    subject: u16,
+    next: &mut [u8],
+) -> Applied {
+    // SAFETY: as in `apply`.
+    let raw = unsafe {
+        raw::cablegorse_delete_defunct_board(
+            image.as_ptr(),
+            image.len(),
+            board.as_ptr(),
+            board.len(),
             id[0],
             id[1],
             scope.0,

@@ -198,6 +198,8 @@ pub enum Refusal {
     Forbidden,
     /// 27: these bytes aren't a name table.
     BadTable,
+    /// 28: the board of control units isn't the image's own, or has another size. It is left.
+    BoardMismatch,
     /// A number that this crate doesn't know: the library is of a later version.
     Unknown {
         /// The number.
@@ -256,6 +258,7 @@ impl Refusal {
             25 => Self::FunctionalGroupLocksHeld,
             26 => Self::Forbidden,
             27 => Self::BadTable,
+            28 => Self::BoardMismatch,
             number => Self::Unknown { number },
         })
     }
@@ -302,6 +305,7 @@ impl Refusal {
             Self::FunctionalGroupLocksHeld => (25, "FunctionalGroupLocksHeld"),
             Self::Forbidden => (26, "Forbidden"),
             Self::BadTable => (27, "BadTable"),
+            Self::BoardMismatch => (28, "BoardMismatch"),
             Self::Unknown { number } => (*number, "Unknown"),
         }
     }
@@ -398,6 +402,7 @@ impl fmt::Display for Refusal {
             Self::FunctionalGroupLocksHeld => "a functional group's lock is held",
             Self::Forbidden => "the lock is another subject's",
             Self::BadTable => "these bytes aren't a name table of this kind",
+            Self::BoardMismatch => "the board is another image's, or has another size",
             Self::Unknown { .. } => "a later version of the library has this number",
         };
         f.write_str(text)

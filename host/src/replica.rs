@@ -4,12 +4,14 @@
 use std::fmt;
 
 use crate::{
-    library::{self, EXPIRED_LIMIT, IMAGE_LIMIT, Part, REMOVED_LIMIT, Told, question},
+    library::{
+        self, Applied, BOARD_BYTES, EXPIRED_LIMIT, IMAGE_LIMIT, Part, REMOVED_LIMIT, Told, question,
+    },
     record::{
         self, ACTIVE_BYTES, DEFUNCT_BYTES, HEAD_BYTES, Head, ListTooLong, Operation, empty_image,
     },
     refusal::Refusal,
-    types::{Active, Coverage, Defunct, Holder, LockId, Scope, TesterPresent},
+    types::{Active, Coverage, Defunct, Holder, LockId, OnEcu, Scope, TesterPresent},
 };
 
 /// What an operation that wasn't refused did.
@@ -106,10 +108,13 @@ impl Room {
 /// record with its own expected number, applies that record itself and sends it on
 /// ([`Replica::perform`]); a spare applies what arrives ([`Replica::apply`], and
 /// [`Replica::follow`] for many records at once). At a takeover the spare's replica is the
-/// primary's from then on, and nothing is converted.
+/// primary's from then on, and nothing is converted. For a screen either keeps a board beside its
+/// image ([`Replica::watch`]).
 pub struct Replica {
     /// An accepted image; its length is the image's.
     image: Vec<u8>,
+    /// The image's own board, where one is kept.
+    board: Option<Box<[u8; BOARD_BYTES]>>,
     room: Room,
 }
 
@@ -130,8 +135,81 @@ impl Replica {
     }
 
     fn kept(image: Vec<u8>) -> Self {
-        let room = Room::new();
-        Self { image, room }
+        Self {
+            image,
+            board: None,
+            room: Room::new(),
+        }
+    }
+
+    /// Takes another image in the place of its own, as a spare does that fetched its primary's; a
+    /// board that is kept is made afresh. Where the image is refused, as by
+    /// [`Replica::from_image`], all stays as it was.
+    pub fn read_in(&mut self, image: &[u8]) -> Result<(), Refusal> {
+        let watched = self.board.is_some();
+        *self = Self::from_image(image)?;
+        if watched {
+            self.watch();
+        }
+        Ok(())
+    }
+
+    /// Keeps a board of control units from now on: for each ECU how many locks cover it, and the
+    /// lowest id among them ([`Replica::on_ecu`]). It is made here once, and every change goes
+    /// along with it, so that a screen may ask at any time. Each change costs a little more then,
+    /// and [`Replica::follow`] goes record by record.
+    ///
+    /// ```
+    /// use cablegorse::{Active, Coverage, Lock, LockId, OnEcu, Operation, Replica, Scope};
+    ///
+    /// let lock = Active {
+    ///     lock: Lock {
+    ///         id: LockId::from_u128(7),
+    ///         scope: Scope::FunctionalGroup(3),
+    ///         exclusive: false,
+    ///         coverage: Coverage::of(&[5, 6]),
+    ///         subject: 1,
+    ///         principal: 0,
+    ///         metadata: 0,
+    ///     },
+    ///     expires: 100,
+    ///     parent: None,
+    /// };
+    /// let mut replica = Replica::empty();
+    /// assert_eq!(replica.on_ecu(5), None); // not watched
+    ///
+    /// replica.watch();
+    /// assert_eq!(replica.on_ecu(5), Some(OnEcu { locks: 0, lowest: None }));
+    ///
+    /// replica.perform(&Operation::InsertActive { lock })?;
+    /// let lowest = Some(lock.lock.id);
+    /// assert_eq!(replica.on_ecu(5), Some(OnEcu { locks: 1, lowest }));
+    /// assert_eq!(replica.on_ecu(7), Some(OnEcu { locks: 0, lowest: None }));
+    /// # Ok::<(), cablegorse::ListTooLong>(())
+    /// ```
+    pub fn watch(&mut self) {
+        let mut board = Box::new([0; BOARD_BYTES]);
+        let told = library::board(&self.image, &mut board[..]);
+        // The image was accepted, and the buffer has a board's size.
+        assert_eq!(told.number, 0, "the library made no board: {told:?}");
+        self.board = Some(board);
+    }
+
+    /// Keeps no board any more.
+    pub fn unwatch(&mut self) {
+        self.board = None;
+    }
+
+    /// The board, where one is kept: for each ECU from 0 on 17 bytes, the count and the id.
+    #[must_use]
+    pub fn board(&self) -> Option<&[u8; BOARD_BYTES]> {
+        self.board.as_deref()
+    }
+
+    /// Which locks cover an ECU; none where no board is kept.
+    #[must_use]
+    pub fn on_ecu(&self, ecu: u8) -> Option<OnEcu> {
+        self.board().map(|board| OnEcu::in_board(board, ecu))
     }
 
     /// The whole state as bytes. Equal images mean equal locks, revisions and expected numbers.
@@ -175,17 +253,28 @@ impl Replica {
     ///
     /// # Panics
     ///
-    /// Where the library says that the record was applied and has written no next image.
+    /// Where the library says that the record was applied and has written no next image, or that
+    /// the board which is kept here isn't the image's own.
     pub fn apply(&mut self, feed: &[u8], at: usize) -> Step {
-        let room = &mut self.room;
-        let applied = library::apply(
-            &self.image,
-            feed,
-            at,
-            &mut room.next,
-            &mut room.removed,
-            &mut room.expired,
-        );
+        let Room {
+            next,
+            removed,
+            expired,
+        } = &mut self.room;
+        let applied = match &mut self.board {
+            None => library::apply(&self.image, feed, at, next, removed, expired),
+            Some(board) => library::apply_board(
+                &self.image,
+                &mut board[..],
+                feed,
+                at,
+                next,
+                removed,
+                expired,
+            ),
+        };
+        own_board(&applied);
+        let room = &self.room;
         let step = Step {
             answer: match Refusal::from_told(&applied.told) {
                 Some(refusal) => Err(refusal),
@@ -215,7 +304,8 @@ impl Replica {
     ///
     /// For a spare that has many records to catch up with: the image is read, tested and written
     /// once for all of them. It doesn't say which locks went and what each operation answered; a
-    /// host that must know uses [`Replica::apply`].
+    /// host that must know uses [`Replica::apply`]. With a board kept it saves nothing: it goes
+    /// record by record.
     ///
     /// After [`Refusal::Torn`] the rest belongs before the bytes that arrive next:
     ///
@@ -246,8 +336,11 @@ impl Replica {
     ///
     /// # Panics
     ///
-    /// Where the library has written no next image.
+    /// Where the library has written no next image; with a board kept, as [`Replica::apply`].
     pub fn follow(&mut self, chunk: &[u8]) -> Run {
+        if self.board.is_some() {
+            return self.follow_by_record(chunk);
+        }
         let followed = library::follow(&self.image, chunk, &mut self.room.next);
         self.take_next(followed.written, &followed);
         Run {
@@ -256,6 +349,26 @@ impl Replica {
             place: followed.place,
             stop: Refusal::from_told(&followed.told),
         }
+    }
+
+    fn follow_by_record(&mut self, chunk: &[u8]) -> Run {
+        let mut run = Run {
+            read: 0,
+            applied: 0,
+            place: 0,
+            stop: None,
+        };
+        while run.place < chunk.len() {
+            let step = self.apply(chunk, run.place);
+            if step.is_bad() {
+                run.stop = step.answer.err();
+                break;
+            }
+            run.read += 1;
+            run.applied += usize::from(step.applied);
+            run.place = step.place;
+        }
+        run
     }
 
     /// Makes the image that was written our own. Kept silently, the old one would make every later
@@ -291,13 +404,14 @@ impl Replica {
         scope: Scope,
         subject: u16,
     ) -> Result<bool, Refusal> {
-        let applied = library::delete_defunct(
-            &self.image,
-            id.halves(),
-            scope.parts(),
-            subject,
-            &mut self.room.next,
-        );
+        let (id, scope, next) = (id.halves(), scope.parts(), &mut self.room.next);
+        let applied = match &self.board {
+            None => library::delete_defunct(&self.image, id, scope, subject, next),
+            Some(board) => {
+                library::delete_defunct_board(&self.image, &board[..], id, scope, subject, next)
+            }
+        };
+        own_board(&applied);
         let answer = match Refusal::from_told(&applied.told) {
             Some(refusal) => Err(refusal),
             None => Ok(applied.told.values[0] == 1),
@@ -508,7 +622,10 @@ impl Default for Replica {
 
 impl Clone for Replica {
     fn clone(&self) -> Self {
-        Self::kept(self.image.clone())
+        Self {
+            board: self.board.clone(),
+            ..Self::kept(self.image.clone())
+        }
     }
 }
 
@@ -529,6 +646,13 @@ impl fmt::Debug for Replica {
             .field("defunct", &self.defuncts().collect::<Vec<_>>())
             .finish()
     }
+}
+
+/// 28 of a board that nobody else writes is damaged memory, or a library that breaks its promise.
+/// Told as an answer it would be a record that a primary sends on and hasn't applied.
+fn own_board(applied: &Applied) {
+    let mismatch = Refusal::from_told(&applied.told) == Some(Refusal::BoardMismatch);
+    assert!(!mismatch, "the board that is kept isn't the image's own");
 }
 
 /// What a 0 means depends on the record's kind, which the library has just read.
@@ -561,7 +685,6 @@ fn written_id(bytes: &[u8]) -> LockId {
 #[cfg(test)]
 mod tests {
     use super::*;
-    use crate::library::Applied;
 
     #[test]
     #[should_panic(expected = "the library wrote no next image")]
@@ -576,5 +699,33 @@ mod tests {
             lapsed: 0,
         };
         Replica::empty().take_next(applied.written, &applied);
+    }
+
+    /// A watched replica with a byte of its board changed.
+    fn damaged() -> Replica {
+        let mut replica = Replica::empty();
+        replica.watch();
+        replica.board.as_mut().expect("it is watched")[17 * 200 + 3] ^= 0x10;
+        replica
+    }
+
+    #[test]
+    #[should_panic(expected = "the board that is kept isn't the image's own")]
+    fn a_damaged_board_ends_a_change() {
+        let _ = damaged().perform(&Operation::ExpireDefunct { now: 0 });
+    }
+
+    #[test]
+    #[should_panic(expected = "the board that is kept isn't the image's own")]
+    fn a_damaged_board_ends_a_deletion() {
+        let _ = damaged().delete_defunct(LockId::default(), Scope::Vehicle, 1);
+    }
+
+    #[test]
+    fn a_damaged_board_is_made_afresh() {
+        let mut replica = damaged();
+        replica.watch();
+        assert_eq!(replica.board(), Some(&[0; BOARD_BYTES]));
+        assert!(replica.apply(&[], 0).is_bad());
     }
 }

@@ -4,6 +4,8 @@
 
 use std::{fmt, str::FromStr};
 
+use crate::library::{BOARD_BYTES, ENTRY_BYTES};
+
 /// A lock's id: 16 bytes, compared from the first.
 #[derive(Clone, Copy, PartialEq, Eq, PartialOrd, Ord, Hash, Default)]
 pub struct LockId(pub [u8; 16]);
@@ -250,6 +252,30 @@ pub struct Defunct {
     pub replacement: LockId,
     /// The subject of the lock that took its place.
     pub holder: u16,
+}
+
+/// What a board of control units tells of one ECU.
+#[derive(Clone, Copy, Debug, PartialEq, Eq, Hash)]
+pub struct OnEcu {
+    /// How many locks that are held cover it, vehicle locks too.
+    pub locks: u8,
+    /// The lowest id among them.
+    pub lowest: Option<LockId>,
+}
+
+impl OnEcu {
+    /// The ECU's entry in a board: 17 bytes, the count and the id.
+    #[must_use]
+    pub fn in_board(board: &[u8; BOARD_BYTES], ecu: u8) -> Self {
+        let at = ENTRY_BYTES * usize::from(ecu);
+        let (locks, mut id) = (board[at], [0; 16]);
+        id.copy_from_slice(&board[at + 1..at + ENTRY_BYTES]);
+        Self {
+            locks,
+            // An id of zeros is an id: the count tells.
+            lowest: (locks > 0).then_some(LockId(id)),
+        }
+    }
 }
 
 /// Which units a tester-present signal keeps awake.

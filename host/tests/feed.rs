@@ -635,10 +635,14 @@ fn refusals_in_words() {
     );
     assert_eq!(
         text(28, [0; 5]),
-        "28 Unknown: a later version of the library has this number"
+        "28 BoardMismatch: the board is another image's, or has another size"
+    );
+    assert_eq!(
+        text(99, [0; 5]),
+        "99 Unknown: a later version of the library has this number"
     );
     let mut said = Vec::new();
-    for number in 1..=27 {
+    for number in 1..=28 {
         let text = text(number, [3, 0, 1, 0, 2]);
         let (row, words) = text.split_once(": ").expect("a number, a name, and words");
         assert!(
@@ -649,7 +653,7 @@ fn refusals_in_words() {
     }
     said.sort();
     said.dedup();
-    assert_eq!(said.len(), 27);
+    assert_eq!(said.len(), 28);
 }
 
 #[test]

@@ -6,6 +6,7 @@ use std::collections::BTreeSet;
 
 use crate::{
     answer::{Class, Refusal, Seen, Told as Word},
+    board,
     judge::{self, Event, Judge, Spare},
     model::{Coverage, Id, Lock, Operation, Read, Scope, State, TesterPresent},
     names, wire,
@@ -112,6 +113,8 @@ pub struct Full {
     pub next: Vec<u8>,
     pub removed: Vec<u8>,
     pub expired: Vec<u8>,
+    /// The state that the next image holds, where the record was applied.
+    pub after: Option<State>,
 }
 
 impl Full {
@@ -150,6 +153,74 @@ impl Full {
         removed[..needed[1]].copy_from_slice(&self.removed);
         expired[..needed[2]].copy_from_slice(&self.expired);
         self.applied
+    }
+}
+
+/// 28: the board isn't the image's own. The feed's place stays.
+#[must_use]
+pub fn mismatch(at: usize) -> Applied {
+    Full::stay(0, Told::new(28, &[]), 0, at).applied
+}
+
+/// `cablegorse_board`.
+pub fn board(image: &[u8], out: &mut [u8]) -> Told {
+    match wire::read_image(image) {
+        Err(refusal) => Told::refused(refusal),
+        Ok((state, _)) => put_board(&board::board(&state), out),
+    }
+}
+
+/// The same of a board that is worked out already.
+pub fn put_board(board: &[u8], out: &mut [u8]) -> Told {
+    let size = [board.len() as u64];
+    match out.get_mut(..board.len()) {
+        None => Told::new(21, &size),
+        Some(out) => {
+            out.copy_from_slice(board);
+            Told::new(0, &size)
+        }
+    }
+}
+
+/// `cablegorse_apply_board`.
+pub fn apply_board(
+    image: &[u8],
+    board: &mut [u8],
+    feed: &[u8],
+    at: usize,
+    next: &mut [u8],
+    removed: &mut [u8],
+    expired: &mut [u8],
+) -> Applied {
+    let (state, expected) = match wire::read_image(image) {
+        Err(refusal) => return Full::stay(0, Told::refused(refusal), 0, at).applied,
+        Ok(read) => read,
+    };
+    let judge = Judge::new(&state);
+    if judge.board() != board {
+        return mismatch(at);
+    }
+    let full = step(&judge, expected, feed, at);
+    let applied = full.put(at, next, removed, expired);
+    if let (2, Some(after)) = (applied.part, &full.after) {
+        board.copy_from_slice(&board::board(after));
+    }
+    applied
+}
+
+/// `cablegorse_delete_defunct_board`.
+pub fn delete_defunct_board(
+    image: &[u8],
+    board: &[u8],
+    id: [u64; 2],
+    kind: u8,
+    number: u8,
+    subject: u16,
+    next: &mut [u8],
+) -> Applied {
+    match wire::read_image(image) {
+        Ok((state, _)) if board::board(&state) != board => mismatch(0),
+        _ => delete_defunct(image, id, kind, number, subject, next),
     }
 }
 
@@ -198,6 +269,7 @@ pub fn step(judge: &Judge, expected: u32, feed: &[u8], at: usize) -> Full {
     full.applied.written = full.next.len() as u64;
     full.applied.gone = removed.len() as u64;
     full.applied.lapsed = expired.len() as u64;
+    full.after = Some(state);
     full
 }
 

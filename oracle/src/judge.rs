@@ -7,6 +7,7 @@ use std::{collections::BTreeSet, fmt::Write as _};
 
 use crate::{
     answer::{Class, Outcome, Refusal, Seen, Told},
+    board,
     model::{ACTIVE_LIMIT, Active, DEFUNCT_LIMIT, Defunct, Id, Operation, Read, State},
     original::{self, Call, Original},
     rules::broken_rule,
@@ -84,6 +85,19 @@ impl Judge {
         match &self.original {
             Ok(original) => original.clone().prepare_runtime_update(generation),
             Err(rule) => (Told::UnsoundState(*rule), generation),
+        }
+    }
+
+    /// The state's board: 02, C-11.
+    ///
+    /// # Panics
+    ///
+    /// On a state that isn't sound.
+    #[must_use]
+    pub fn board(&self) -> Vec<u8> {
+        match &self.original {
+            Ok(original) => board::written(original),
+            Err(rule) => panic!("rule {rule} is broken: {:?}", self.state),
         }
     }
 

@@ -10,6 +10,7 @@
 //! - [`generate`]: seeded random sound states, operations, reads, feeds and damage.
 //! - [`small`]: every state and operation of a tiny universe.
 //! - [`stories`]: what clearing away leaves of who holds now (02, C-20).
+//! - [`mod@board`]: which active locks cover each ECU, in bytes (02, C-11).
 //! - [`vectors`]: a fixed sample of the answers as data.
 //! - [`mod@bench`]: states and operations to time.
 //! - [`sweep`]: every single-byte change and every cut of an image.
@@ -20,6 +21,7 @@
 
 pub mod answer;
 pub mod bench;
+pub mod board;
 pub mod boundary;
 pub mod generate;
 pub mod judge;

@@ -473,6 +473,19 @@ pub fn prepare_runtime_update(state: &State, generation: u64) -> (Told, u64) {
     }
 }
 
+/// 02, C-11: "for all 256 ECUs, the number of active locks covering it and the lowest id among
+/// them, zeros if none".
+#[must_use]
+pub fn board(state: &State) -> Vec<u8> {
+    let entry = |ecu| {
+        let covers = |a: &&Active| a.lock.coverage.covers(ecu);
+        let ids = state.active.iter().filter(covers).map(|a| a.lock.id);
+        let (locks, lowest) = (ids.clone().count() as u8, ids.min());
+        [locks].into_iter().chain(lowest.unwrap_or_default().0)
+    };
+    (0..=255).flat_map(entry).collect()
+}
+
 /// The read as 01 and the names of 000 have it.
 #[must_use]
 pub fn read(state: &State, read: &Read) -> Seen {

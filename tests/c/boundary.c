@@ -1,7 +1,7 @@
 /* SPDX-License-Identifier: Apache-2.0 */
 /* What include/cablegorse.h says, tried from C: every function, every field of an answer with a number of its own in it,
- * (NULL, 0) in the place of every slice, every question, each part, whole chunks, names known and new, and a wrong
- * `folding`.
+ * (NULL, 0) in the place of every slice, every question, each part, whole chunks, boards, names known and new, and a
+ * wrong `folding`.
  * Prints each line that is wrong, and how many were right. */
 #include <stdio.h>
 #include <string.h>
@@ -273,6 +273,68 @@ static void chunks(void) {
     CHECK(f.written == image_len && memcmp(image, next, image_len) == 0);
 }
 
+/* The board of control units: made, kept over a record, refused (28) and left. Lock 1 on ECU 5, a vehicle lock 2. */
+static void boards(void) {
+    static uint8_t board[CABLEGORSE_BOARD_BYTES + 1], other[sizeof board], kept[sizeof board];
+    cablegorse_applied a;
+    const size_t size = CABLEGORSE_BOARD_BYTES, five = 5 * CABLEGORSE_ENTRY_BYTES, last = 255 * CABLEGORSE_ENTRY_BYTES;
+    start(0, 0);
+    insert(0, 1, CABLEGORSE_SCOPE_ECU, 5, 1, 1 << 5, 0);
+    apply(0, record, record_len);
+    memset(board, 0x5a, sizeof board);
+    cablegorse_told t = cablegorse_board(image, image_len, board, size - 1);
+    CHECK(t.number == CABLEGORSE_SHORT_OUTPUT && t.count == 1 && t.v[0] == size && board[0] == 0x5a);
+    t = cablegorse_board(image, 19, board, size);
+    CHECK(t.number == CABLEGORSE_TORN && t.v[0] == 0 && board[0] == 0x5a);
+    t = cablegorse_board(image, image_len, board, sizeof board);
+    CHECK(t.number == CABLEGORSE_DONE && t.count == 1 && t.v[0] == size && board[size] == 0x5a);
+    CHECK(board[five] == 1 && board[five + 1 + 7] == 1 && board[five + 1 + 15] == 1 && board[five + 1] == 0);
+    CHECK(board[0] == 0 && board[last] == 0 && board[size - 1] == 0);
+
+    insert(1, 2, CABLEGORSE_SCOPE_VEHICLE, 0, 1, 0, 0);
+    memcpy(other, board, sizeof board);
+    memset(next, 0x5a, sizeof next);
+    memset(removed, 0x5a, sizeof removed);
+    memset(expired, 0x5a, sizeof expired);
+    other[last + 3] ^= 1;
+    /* A byte of it, then its size: 28, at a place without a record and at one that is due. */
+    uint8_t *lent[] = {other, other, board, board};
+    size_t sizes[] = {size, size, size - 1, size + 1}, places[] = {7, 0, 0, 0};
+    for (int i = 0; i < 4; i++) {
+        memcpy(kept, lent[i], sizeof kept);
+        a = cablegorse_apply_board(image, image_len, lent[i], sizes[i], record, record_len, places[i], next, sizeof next,
+                                   removed, sizeof removed, expired, sizeof expired);
+        CHECK(a.number == CABLEGORSE_BOARD_MISMATCH && a.count == 0 && a.part == CABLEGORSE_PART_IMAGE_REFUSED);
+        CHECK(a.place == places[i] && a.sequence == 0 && a.written == 0 && memcmp(lent[i], kept, sizeof kept) == 0);
+        CHECK(next[0] == 0x5a && removed[0] == 0x5a && expired[0] == 0x5a);
+        a = cablegorse_delete_defunct_board(image, image_len, lent[i], sizes[i], 1, 1, 3, 5, 1, next, sizeof next);
+        CHECK(a.number == CABLEGORSE_BOARD_MISMATCH && a.part == CABLEGORSE_PART_IMAGE_REFUSED && next[0] == 0x5a);
+    }
+    CHECK(cablegorse_response_class(CABLEGORSE_BOARD_MISMATCH) == CABLEGORSE_CLASS_NONE);
+
+    /* Too short: all four are left. Then all four are written. */
+    a = cablegorse_apply_board(image, image_len, board, size, record, record_len, 0, next, image_len + 90, removed,
+                               sizeof removed, expired, sizeof expired);
+    CHECK(a.number == CABLEGORSE_SHORT_OUTPUT && a.part == CABLEGORSE_PART_SHORT_OUTPUT);
+    CHECK(board[0] == 0 && next[0] == 0x5a);
+    a = cablegorse_apply_board(image, image_len, board, size, record, record_len, 0, next, image_len + 91, removed,
+                               sizeof removed, expired, sizeof expired);
+    CHECK(a.number == CABLEGORSE_DONE && a.part == CABLEGORSE_PART_APPLIED);
+    CHECK(a.sequence == 1 && a.written == image_len + 91);
+    CHECK(board[0] == 1 && board[1 + 15] == 2 && board[five] == 2 && board[five + 1 + 15] == 1 && board[last] == 1);
+    CHECK(board[size] == 0x5a);
+    t = cablegorse_board(next, a.written, other, size);
+    CHECK(t.number == CABLEGORSE_DONE && memcmp(board, other, size) == 0);
+    /* The board that went along isn't the old image's any more. */
+    a = cablegorse_apply_board(image, image_len, board, size, record, record_len, 0, next, sizeof next, removed,
+                               sizeof removed, expired, sizeof expired);
+    CHECK(a.number == CABLEGORSE_BOARD_MISMATCH);
+    a = cablegorse_delete_defunct_board(next, image_len + 91, board, size, 1, 1, 3, 5, 1, NULL, 0);
+    CHECK(a.number == CABLEGORSE_BAD_FIELD && a.part == CABLEGORSE_PART_RECORD_REFUSED);
+    a = cablegorse_delete_defunct_board(next, image_len + 91, board, size, 1, 1, CABLEGORSE_SCOPE_ECU, 5, 1, NULL, 0);
+    CHECK(a.number == CABLEGORSE_DONE && a.v[0] == 0 && a.part == CABLEGORSE_PART_APPLIED && a.written == 0);
+}
+
 /* (NULL, 0) in the place of every slice, alone and together. */
 static void empty_slices(void) {
     start(0, 0);
@@ -303,6 +365,16 @@ static void empty_slices(void) {
     CHECK(a.number == CABLEGORSE_TORN && a.part == CABLEGORSE_PART_IMAGE_REFUSED);
     a = cablegorse_delete_defunct(image, image_len, 1, 1, 1, 5, 1, NULL, 0);
     CHECK(a.number == CABLEGORSE_DONE && a.v[0] == 0);
+    CHECK(cablegorse_board(NULL, 0, NULL, 0).number == CABLEGORSE_TORN);
+    CHECK(cablegorse_board(image, image_len, NULL, 0).number == CABLEGORSE_SHORT_OUTPUT);
+    a = cablegorse_apply_board(NULL, 0, NULL, 0, NULL, 0, 0, NULL, 0, NULL, 0, NULL, 0);
+    CHECK(a.number == CABLEGORSE_TORN && a.part == CABLEGORSE_PART_IMAGE_REFUSED);
+    a = cablegorse_apply_board(image, image_len, NULL, 0, NULL, 0, 5, NULL, 0, NULL, 0, NULL, 0);
+    CHECK(a.number == CABLEGORSE_BOARD_MISMATCH && a.place == 5);
+    a = cablegorse_delete_defunct_board(NULL, 0, NULL, 0, 1, 1, 1, 5, 1, NULL, 0);
+    CHECK(a.number == CABLEGORSE_TORN && a.part == CABLEGORSE_PART_IMAGE_REFUSED);
+    a = cablegorse_delete_defunct_board(image, image_len, NULL, 0, 1, 1, 1, 5, 1, NULL, 0);
+    CHECK(a.number == CABLEGORSE_BOARD_MISMATCH && a.part == CABLEGORSE_PART_IMAGE_REFUSED);
     CHECK(cablegorse_read(NULL, 0, 1, 0, 0, NULL, 0, NULL, 0).number == CABLEGORSE_TORN);
     for (uint32_t question = 1; question <= 14; question++) {
         cablegorse_told t = cablegorse_read(image, image_len, question, 1, 0, NULL, 0, NULL, 0);
@@ -361,6 +433,7 @@ int main(void) {
     parts();
     questions();
     chunks();
+    boards();
     empty_slices();
     names();
     printf("boundary from C: %d checks, %d wrong\n", right + wrong, wrong);

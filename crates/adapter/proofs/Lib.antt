@@ -2,6 +2,7 @@
 pub mod Args
 pub mod Beside
 pub mod Data
+pub mod Relend
 pub mod Thin
 pub mod Through
 pub mod Types

@@ -51,6 +51,20 @@ use Rattle.feed.proofs.events.Told as Told
 use Rattle.feed.proofs.events.Told.Laws as Told′
 use Rattle.feed.proofs.events.Step as Step
 use Rattle.feed.proofs.events.Step.Laws as Step′
+use Rattle.records.proofs.requests.Request as Request
+use Rattle.records.proofs.requests.Request.Laws as Request′
+use Rattle.board.proofs.BoardDeed as BoardDeed
+use Rattle.board.proofs.BoardDeed.Laws as BoardDeed′
+use Rattle.board.proofs.BoardPerformed as BoardPerformed
+use Rattle.board.proofs.BoardPerformed.Laws as BoardPerformed′
+use Rattle.board.proofs.BoardDropping as BoardDropping
+use Rattle.board.proofs.BoardDropping.Laws as BoardDropping′
+use Rattle.board.proofs.BoardDropped as BoardDropped
+use Rattle.board.proofs.BoardDropped.Laws as BoardDropped′
+use Rattle.board.proofs.BoardTold as BoardTold
+use Rattle.board.proofs.BoardTold.Laws as BoardTold′
+use Rattle.board.proofs.BoardStep as BoardStep
+use Rattle.board.proofs.BoardStep.Laws as BoardStep′
 use Rattle.adapter.proofs.Updated as Updated
 use Rattle.adapter.proofs.Updated.Laws as Updated′
 
@@ -152,3 +166,31 @@ abbrev pub stepped : Out spare told
 stepped =
     out spare told Step.the-row (Step.struct .name) (λ t h. record { told = t; spare = h }) (λ x. x .told) (λ x. x .spare) (λ x. refl) (LL.tells Step.the-type Step′.the-laws)
     (λ M 𝓤 H A W. LL.lawful Step.the-type Step′.the-laws 𝓤 H A W .typed) (λ M. LL.makes Step.the-type Step′.the-plain) (LL.owed Step.the-type Step′.the-laws) (λ t h. LL.owes Step.the-type Step′.the-laws (record { told = t; spare = h }))
+
+-- ---- the calls with a board
+abbrev pub request : Data
+request = of-enum Request.the-type Request′.the-laws tt Request′.the-copy Request′.the-plain
+
+abbrev pub board-deed : Data
+board-deed = of-struct BoardDeed.the-type BoardDeed′.the-laws BoardDeed′.the-copy BoardDeed′.the-plain
+
+abbrev pub board-performed : Out state board-deed
+board-performed =
+    out state board-deed BoardPerformed.the-row (BoardPerformed.struct .name) (λ t h. record { told = t; state = h }) (λ x. x .told) (λ x. x .state) (λ x. refl) (LL.tells BoardPerformed.the-type BoardPerformed′.the-laws)
+    (λ M 𝓤 H A W. LL.lawful BoardPerformed.the-type BoardPerformed′.the-laws 𝓤 H A W .typed) (λ M. LL.makes BoardPerformed.the-type BoardPerformed′.the-plain) (LL.owed BoardPerformed.the-type BoardPerformed′.the-laws) (λ t h. LL.owes BoardPerformed.the-type BoardPerformed′.the-laws (record { told = t; state = h }))
+
+abbrev pub board-dropping : Data
+board-dropping = of-enum BoardDropping.the-type BoardDropping′.the-laws tt BoardDropping′.the-copy BoardDropping′.the-plain
+
+abbrev pub board-dropped : Out state board-dropping
+board-dropped =
+    out state board-dropping BoardDropped.the-row (BoardDropped.struct .name) (λ t h. record { told = t; state = h }) (λ x. x .told) (λ x. x .state) (λ x. refl) (LL.tells BoardDropped.the-type BoardDropped′.the-laws)
+    (λ M 𝓤 H A W. LL.lawful BoardDropped.the-type BoardDropped′.the-laws 𝓤 H A W .typed) (λ M. LL.makes BoardDropped.the-type BoardDropped′.the-plain) (LL.owed BoardDropped.the-type BoardDropped′.the-laws) (λ t h. LL.owes BoardDropped.the-type BoardDropped′.the-laws (record { told = t; state = h }))
+
+abbrev pub board-told : Data
+board-told = of-struct BoardTold.the-type BoardTold′.the-laws BoardTold′.the-copy BoardTold′.the-plain
+
+abbrev pub board-stepped : Out spare board-told
+board-stepped =
+    out spare board-told BoardStep.the-row (BoardStep.struct .name) (λ t h. record { told = t; spare = h }) (λ x. x .told) (λ x. x .spare) (λ x. refl) (LL.tells BoardStep.the-type BoardStep′.the-laws)
+    (λ M 𝓤 H A W. LL.lawful BoardStep.the-type BoardStep′.the-laws 𝓤 H A W .typed) (λ M. LL.makes BoardStep.the-type BoardStep′.the-plain) (LL.owed BoardStep.the-type BoardStep′.the-laws) (λ t h. LL.owes BoardStep.the-type BoardStep′.the-laws (record { told = t; spare = h }))

@@ -25,6 +25,12 @@ use Rattle.locks.specs.Locks.{prepareUpdateOn}
 use Rattle.image.specs.declared.Spare.{Spare}
 use Rattle.feed.specs.declared.events.Told.{Told}
 use Rattle.feed.specs.declared.events.Step.{Step}
+use Rattle.board.specs.declared.BoardDeed.{BoardDeed}
+use Rattle.board.specs.declared.BoardPerformed.{BoardPerformed}
+use Rattle.board.specs.declared.BoardDropping.{BoardDropping}
+use Rattle.board.specs.declared.BoardDropped.{BoardDropped}
+use Rattle.board.specs.declared.BoardTold.{BoardTold}
+use Rattle.board.specs.declared.BoardStep.{BoardStep}
 use Rattle.adapter.specs.declared.Updated.{Updated}
 
 abbrev pub inserted : Answer → LockState → Inserted
@@ -67,3 +73,13 @@ updateOn s g = updated (prepareUpdateOn s g) (heldAfter (prepareUpdateOn s g) g)
 -- ---- a step over the feed, on the spare's state and expected number
 abbrev pub stepped : Told → Spare → Step
 stepped t s = record { told = t; spare = s }
+
+-- ---- the calls with a board
+abbrev pub boardPerformed : BoardDeed → LockState → BoardPerformed
+boardPerformed t s = record { told = t; state = s }
+
+abbrev pub boardDropped : BoardDropping → LockState → BoardDropped
+boardDropped t s = record { told = t; state = s }
+
+abbrev pub boardStepped : BoardTold → Spare → BoardStep
+boardStepped t s = record { told = t; spare = s }

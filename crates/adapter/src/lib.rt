@@ -3,6 +3,9 @@
 // SPDX-License-Identifier: Apache-2.0
 pub mod by_value;
 
+use board::BoardDeed;
+use board::BoardDropping;
+use board::BoardTold;
 use feed::events::Told;
 use ids::LockId;
 use image::Spare;
@@ -15,6 +18,7 @@ use operations::answers::Removal;
 use operations::answers::Renewal;
 use operations::answers::Replacement;
 use operations::answers::Shed;
+use records::requests::Request;
 use state::ActiveLock;
 use state::LockState;
 use state::ScopeKey;
@@ -27,7 +31,8 @@ ghost use Rattle.operations.specs.Replace.{commitReplacementOn};
 ghost use Rattle.operations.specs.Acknowledge.{acknowledgeOn, expireDefunctOn};
 ghost use Rattle.locks.specs.Locks.{deleteDefunctOn};
 ghost use Rattle.feed.specs.Feed.{stepOn};
-ghost use Rattle.adapter.specs.Lent.{inserted, renewed, deleted, expired, replaced, acknowledged, defunctsExpired, dropped, updated, heldAfter, updateOn, stepped};
+ghost use Rattle.board.specs.Forms.{boarded, performBoard, deleteDefunctBoard, stepBoard};
+ghost use Rattle.adapter.specs.Lent.{inserted, renewed, deleted, expired, replaced, acknowledged, defunctsExpired, dropped, updated, heldAfter, updateOn, stepped, boardPerformed, boardDropped, boardStepped};
 
 // What is told, and the generation that holds afterwards.
 struct Updated {
@@ -155,6 +160,42 @@ pub fn step(spare: &mut Spare, feed: &[u8], at: usize) -> Told
     ensures { λ r. ⌜ stepped r (now (spare .exit)) ≡ stepOn (now (spare .entry)) (now (feed .entry)) at ⌝ }
 {
     let r = feed::step(*spare, feed, at);
+    *spare = r.spare;
+    r.told
+}
+
+// The same with a board beside the state: it is lent on as it is, and the operation tests and keeps it.
+pub fn perform_board(
+    state: &mut LockState,
+    request: Request,
+    list: &[u64],
+    board: &mut [u8],
+) -> BoardDeed
+    ensures { λ r. ⌜ boarded (boardPerformed r (now (state .exit))) (now (board .exit)) ≡ performBoard (now (state .entry)) request (now (list .entry)) (now (board .entry)) ⌝ }
+{
+    let r = board::perform(*state, request, list, board);
+    *state = r.state;
+    r.told
+}
+
+pub fn delete_defunct_board(
+    state: &mut LockState,
+    id: LockId,
+    scope: ScopeKey,
+    subject: u16,
+    board: &[u8],
+) -> BoardDropping
+    ensures { λ r. ⌜ boardDropped r (now (state .exit)) ≡ deleteDefunctBoard (now (state .entry)) id scope subject (now (board .entry)) ⌝ }
+{
+    let r = board::delete_defunct(*state, id, scope, subject, board);
+    *state = r.state;
+    r.told
+}
+
+pub fn step_board(spare: &mut Spare, feed: &[u8], at: usize, board: &mut [u8]) -> BoardTold
+    ensures { λ r. ⌜ boarded (boardStepped r (now (spare .exit))) (now (board .exit)) ≡ stepBoard (now (spare .entry)) (now (feed .entry)) at (now (board .entry)) ⌝ }
+{
+    let r = board::step(*spare, feed, at, board);
     *spare = r.spare;
     r.told
 }

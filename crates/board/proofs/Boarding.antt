@@ -1,11 +1,10 @@
 -- The calls with a board, as the code makes them: the board is tested first, and 12 is looked for where it is another one, or told
 -- by the plain call, which then leaves the state and so the board. Assumes nothing.
-use mathlib.Core.Path.{_≡_, refl, sym, ap, ap₂, _∙_}
+use mathlib.Core.Path.{_≡_, refl, sym, ap, _∙_}
 use mathlib.Core.Bool.{Bool, true, false, not, cond}
 use mathlib.Core.List.{List, [], _++_}
 use Prim.Native.Nat.{ℕ, _≤_, _<_}
 use borrow.Author.Tests.{eq-eqb, ne-eqb, lt-ltb}
-use lib.Dec.{eqb, ltb}
 use lib.ListN.{length, drop}
 use Rattle.lists.specs.Tests.{Yes, No}
 use Rattle.lists.proofs.Tests.{against, cond-true, cond-false}

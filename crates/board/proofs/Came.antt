@@ -2,20 +2,22 @@
 -- lock with its id is after it; it came where that is so the other way round.
 --     came-or-went      of a sound state the locks by which the board is written are no others
 --     written-covered   so of any buffer of a board's size an entry keeps its bytes, or a lock that came or went covers its ECU
---     none-written      and a call that leaves the active locks leaves every byte: a refusal, say
--- of the eight operations; with `step-` before it, of a step over the feed. Assumes nothing.
-use mathlib.Core.Path.{_≡_, refl, sym, ap, subst, _∙_}
+--     none-written      and a call that leaves the active locks leaves every byte
+-- of the eight operations; with `step-` before it, of a step over the feed. And of any state:
+--     refused-none      with an operation that was refused none came or went
+--     refused-left      so it leaves every byte. Assumes nothing.
+use mathlib.Core.Path.{_≡_, refl, sym, ap, ap₂, subst, _∙_}
 use mathlib.Core.Bool.{Bool, cond}
 use mathlib.Core.List.{List, [], _∷_, _++_, map, List·Memᴰ·head, List·Memᴰ·tail, List·Memᴰ·not-nil, List·Memᴰ·eq-of-singleton, List·Memᴰ·append-cases, Memᴰ·of-map}
 use mathlib.Core.Logic.{_⊎_, inl, inr}
 use Prim.Native.Nat.{ℕ, _<_}
 use lib.Dec.{eqb, leb}
 use lib.ListN.{length, take}
-use borrow.Author.Tests.{eq-eqb, eqb-true}
+use borrow.Author.Tests.{eq-eqb, eqb-true, ne-eqb}
 use Rattle.lists.specs.Tests.{non, Yes, No}
 use Rattle.lists.specs.Lists.{any, filter, insertBy, Mem}
 use Rattle.lists.specs.Places.{inPlaces}
-use Rattle.lists.proofs.Tests.{against, →no, non-yes, or-l, or-r, by, cond-both}
+use Rattle.lists.proofs.Tests.{against, →no, non-yes, or-l, or-r, by, cond-both, cond-false}
 use Rattle.lists.proofs.Lists.{any→, →any, filter→, from-unique, insert→, insert-new}
 use Rattle.ids.specs.Order.{key}
 use Rattle.state.specs.declared.ActiveLock.{ActiveLock}
@@ -54,7 +56,7 @@ use Rattle.promises.proofs.Core.{Core, stands-of}
 use Rattle.promises.proofs.Removal.{tree-kept, cut-roots}
 use Rattle.promises.proofs.Passed.{then-done}
 use Rattle.promises.proofs.Checked.{id-ok}
-use Rattle.promises.proofs.Closing.{insert-exactly, vehicle-exactly, replace-exactly, delete-comes, expiration-comes}
+use Rattle.promises.proofs.Closing.{insert-exactly, vehicle-exactly, replace-exactly, replace-comes, delete-comes, expiration-comes}
 use Rattle.board.specs.Board.{on, brings, moved, entryAt, updated}
 use Rattle.board.specs.Forms.{callMoved, callBoard, takenMoved, stepMoved, stepUpdated}
 use Rattle.board.proofs.Kept.{kept-outside, nothing-moved}
@@ -283,3 +285,22 @@ module _ (sp : Spare) (q : brokenRule (sp .state) ≡ Sound) (f : List ℕ) (at 
 
   pub step-none-written : modelOf (stepOn sp f at .spare .state) .active ≡ modelOf (sp .state) .active → stepUpdated f at (stepOn sp f at) b ≡ b
   step-none-written = unwritten (stepMoved f at (stepOn sp f at)) (modelOf (sp .state) .active) (modelOf (stepOn sp f at .spare .state) .active) (step-came-or-went sp q f at) b h
+
+-- ---- a refused operation: nothing came or went, and so the board keeps every byte
+refused-gone : (s : LockState) (r : Request) (ws : List ℕ) → (outcomePaper (performOn s r ws .outcome) .number ≡ 0 → ⊥) → performOn s r ws .gone ≡ 0
+unfolding performOn outcomePaper paperOf deletionPaper expirationPaper
+refused-gone s (Insert x) ws h = refl
+refused-gone s (InsertVehicle x) ws h = refl
+refused-gone s (Renew r) ws h = refl
+refused-gone s (Delete i) ws h = delete-comes (λ (d : Deleted). (deletionPaper (d .told .answer) .number ≡ 0 → ⊥) → d .told .gone ≡ 0) s i (λ b k. refl) (λ r e v k. absurd (k refl)) h
+refused-gone s (BeginExpiration e) ws h = expiration-comes (λ (d : Expired). (expirationPaper (d .told .answer) .number ≡ 0 → ⊥) → d .told .gone ≡ 0) s (e .id) (e .now) (λ b k. refl) (λ r e v k. absurd (k refl)) h
+refused-gone s (Replace r) ws h = replace-comes (λ (d : Replaced). (paperOf (d .told .answer) .number ≡ 0 → ⊥) → d .told .gone ≡ 0) s ws (r .lock) (r .breaker) (r .broken) (λ b n k. refl) (λ q v k. absurd (k refl)) h
+refused-gone s (Acknowledge i) ws h = refl
+refused-gone s (ExpireDefunct now) ws h = refl
+
+pub refused-none : (s : LockState) (r : Request) (ws : List ℕ) → (outcomePaper (performOn s r ws .outcome) .number ≡ 0 → ⊥) → callMoved r (performOn s r ws) ≡ []
+unfolding moved
+refused-none s r ws h = ap₂ (λ (l : List ActiveLock) (g : ℕ). l ++ take g (performOn s r ws .removed)) (cond-false _ _ _ (ne-eqb _ 0 h)) (refused-gone s r ws h)
+
+pub refused-left : (s : LockState) (r : Request) (ws : List ℕ) (b : List ℕ) → length b ≡ 4352 → (outcomePaper (performOn s r ws .outcome) .number ≡ 0 → ⊥) → callBoard r (performOn s r ws) b ≡ b
+refused-left s r ws b l h = ap (λ (cs : List ActiveLock). updated cs (modelOf (performOn s r ws .state) .active) b) (refused-none s r ws h) ∙ nothing-moved (modelOf (performOn s r ws .state) .active) b l

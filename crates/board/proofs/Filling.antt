@@ -3,17 +3,17 @@
 use mathlib.Core.Path.{_≡_, refl, sym, ap, ap₂, subst, _∙_}
 use mathlib.Core.Bool.{Bool, true, false, cond, _&&_}
 use mathlib.Core.List.{List, [], _∷_, _++_}
-use Prim.Native.Nat.{ℕ, zero, suc, _+_, _-_, _*_, _%_, _≤_, _<_}
+use Prim.Native.Nat.{ℕ, suc, _+_, _-_, _*_, _%_, _≤_, _<_}
 use native.Mathlib.Decide.{ℕ-discrete}
 use native.Mathlib.Nat.{mod-eq-of-lt}
 use native.Mathlib.Numerals.{add-one}
 use native.Mathlib.Omega.{arith}
 use borrow.Author.Tests.{le-leb, lt-ltb, le-ltb, ltb-true, ltb-false}
-use lib.Dec.{eqb, leb, ltb}
+use lib.Dec.{eqb, ltb}
 use lib.ListN.{length, take, drop, getD, set, length-set, length-drop, drop-of-length-le}
 use lib.Seq.{set-split, append-snoc, getD-take, getD-drop, drop-cons, take-all, length-take-le}
 use Rattle.lists.specs.Tests.{_and_, Yes, No}
-use Rattle.lists.specs.Lists.{filter, find}
+use Rattle.lists.specs.Lists.{filter}
 use Rattle.lists.proofs.Tests.{by, cond-true, cond-false, cond-both, and-t, and-f, and-i, and-comm, and-code}
 use Rattle.lists.proofs.Loops.{more}
 use Rattle.lists.proofs.Lists.{filter-le}
@@ -27,7 +27,7 @@ use Rattle.records.specs.Numbers.{splice, stored}
 use Rattle.records.specs.Wire.{idBytes}
 use Rattle.records.proofs.Numbers.{splice-splice, length-splice}
 use Rattle.records.proofs.Runs.{length-id}
-use Rattle.board.specs.Board.{on, countOn, lowestOn, entryOf, boardBy, entryAt, refreshed}
+use Rattle.board.specs.Board.{on, countOn, lowestOn, entryOf, entryAt, refreshed}
 use Rattle.board.specs.Code.{Covers, EmptyIn, Next, turned, touched}
 use Rattle.board.proofs.Rows.{made-by, by-same, size-by, entry-by, size-at, stored-here, stored-off}
 
@@ -172,10 +172,6 @@ pub same-ends : (a b : List ℕ) (i : ℕ) (same : Bool) → length a ≤ i → 
 same-ends a b i same l m q = q ∙ ap₂ sameBytes (take-all i a l) (take-all i b m)
 
 -- ---- a lock put in before the others
-pub count-most : (l : List ActiveLock) (e : ℕ) → countOn l e ≤ length l
-unfolding countOn
-count-most l e = filter-le (on e) l
-
 entry-yes : (x : ActiveLock) (l : List ActiveLock) (e : ℕ) → length l < 255 → Yes (on e x) → entryOf (x ∷ l) e ≡ turned true (x .lock .id) (entryOf l e)
 unfolding entryOf countOn lowestOn turned
 entry-yes x l e h t = rw t (ap (λ (n : ℕ). n ∷ idBytes (x .lock .id)) (let q : suc (length (filter (on e) l)) ≡ length (filter (on e) l) + 1 = omega arith in q ∙ sym (mod-eq-of-lt (omega (arith, filter-le (on e) l)))))

@@ -1,17 +1,17 @@
 -- What the code's calls come to: the ECUs of the locks that came or went as one coverage, and the board worked out over it.
 -- Assumes nothing.
 use mathlib.Core.Path.{_≡_, refl, sym, ap, ap₂, subst, _∙_}
-use mathlib.Core.Bool.{Bool, true, false, cond}
+use mathlib.Core.Bool.{Bool, false, cond}
 use mathlib.Core.List.{List, [], _∷_, _++_}
 use Prim.Native.Nat.{ℕ, zero, suc, _+_, _-_, _*_, _/_, _%_, _≤_, _<_}
 use native.Mathlib.Omega.{arith}
 use borrow.Author.Tests.{ltb-true, ltb-false, eq-eqb, ne-eqb}
-use lib.Dec.{eqb, ltb}
-use lib.ListN.{length, take, drop, getD, replicate, length-replicate, replicate-append-replicate}
+use lib.Dec.{ltb}
+use lib.ListN.{length, take, getD, replicate, length-replicate, replicate-append-replicate}
 use lib.Seq.{take-all, take-at, drop-at}
-use Rattle.lists.specs.Tests.{_or_, Yes, No}
+use Rattle.lists.specs.Tests.{_or_, Yes}
 use Rattle.lists.specs.Lists.{any}
-use Rattle.lists.proofs.Tests.{by, cond-true, cond-false, cond-both, or-f, or-comm, or-assoc}
+use Rattle.lists.proofs.Tests.{cond-true, cond-false, cond-both, or-f, or-comm, or-assoc}
 use Rattle.lists.proofs.Loops.{more}
 use Rattle.bits.specs.Bits.{bitAt}
 use Rattle.bits.proofs.Bits.{bit-of-zero}
@@ -22,8 +22,7 @@ use Rattle.state.specs.declared.LockState.{LockState}
 use Rattle.state.specs.Model.{modelOf}
 use Rattle.records.specs.declared.requests.Request.{Request}
 use Rattle.records.specs.Numbers.{part, bytesOf, digits}
-use Rattle.records.specs.Wire.{idBytes}
-use Rattle.board.specs.Board.{on, entryOf, boardBy, boardOf, countOn, lowestOn, brings, arrived, moved, entryAt, refreshed, updated}
+use Rattle.board.specs.Board.{on, entryOf, boardOf, countOn, lowestOn, brings, arrived, moved, entryAt, refreshed, updated}
 use Rattle.board.specs.Code.{Covers, EmptyIn}
 use Rattle.board.proofs.Rows.{by-same}
 
@@ -51,15 +50,6 @@ module _ (r : Request) (n : ℕ) (c : LockCoverage) where
   came-no q z e = ap (λ (d : LockCoverage). covers d e) z ∙ none-on e ∙ ap (any (on e)) (sym (cond-false _ _ _ (ne-eqb n 0 q)))
 
 -- ---- what went: one more
-any-snoc : (p : ActiveLock → Bool) (l : List ActiveLock) (x : ActiveLock) → any p (l ++ (x ∷ [])) ≡ (any p l or p x)
-unfolding _or_
-any-snoc p [] x = go (p x)
-  where
-    go : (t : Bool) → (t or false) ≡ t
-    go true = refl
-    go false = refl
-any-snoc p (y ∷ l) x = ap (λ (t : Bool). p y or t) (any-snoc p l x) ∙ sym (or-assoc (p y) (any p l) (p x))
-
 any-append : (p : ActiveLock → Bool) (l m : List ActiveLock) → any p (l ++ m) ≡ (any p l or any p m)
 unfolding _or_
 any-append p [] m = refl
@@ -71,11 +61,10 @@ module _ (c : LockCoverage) (removed : List ActiveLock) where
 
   pub went-more : (d : ActiveLock) (all all′ : LockCoverage) (i : ℕ) → i < length removed → Covers all (λ e. covers c e or any (on e) (take i removed))
       → Covers all′ (λ e. covers all e or covers (getD removed i d .lock .coverage) e) → Covers all′ (λ e. covers c e or any (on e) (take (i + 1) removed))
-  unfolding on
   went-more d all all′ i h g v e =
-      v e ∙ ap (λ (t : Bool). t or covers (getD removed i d .lock .coverage) e) (g e)
-      ∙ or-assoc (covers c e) (any (on e) (take i removed)) (covers (getD removed i d .lock .coverage) e)
-      ∙ ap (λ (t : Bool). covers c e or t) (sym (ap (any (on e)) (more removed i d h) ∙ any-snoc (on e) (take i removed) (getD removed i d)))
+      v e ∙ ap₂ _or_ (g e) (one-on (getD removed i d) e)
+      ∙ or-assoc (covers c e) (any (on e) (take i removed)) (any (on e) (getD removed i d ∷ []))
+      ∙ ap (λ (t : Bool). covers c e or t) (sym (ap (any (on e)) (more removed i d h) ∙ any-append (on e) (take i removed) (getD removed i d ∷ [])))
 
 -- a count past the array's end counts as its end
 pub at-most-fits : (k n : ℕ) → k ≡ cond (ltb 64 n) 64 n → k ≤ 64

@@ -3,19 +3,17 @@
 --     written-inside   the entry of such an ECU is worked out afresh
 --     follows          so of the board of l it makes the board of l′, where the entries of the other ECUs are the same in both
 -- Assumes nothing.
-use mathlib.Core.Path.{_≡_, refl, sym, ap, _∙_}
+use mathlib.Core.Path.{_≡_, refl, _∙_}
 use mathlib.Core.Bool.{cond}
 use mathlib.Core.List.{List, []}
 use Prim.Native.Nat.{ℕ, _<_}
-use lib.Dec.{ltb}
 use lib.ListN.{length}
-use borrow.Author.Tests.{ltb-true, lt-ltb}
 use Rattle.lists.specs.Tests.{Yes, No}
 use Rattle.lists.specs.Lists.{any}
 use Rattle.lists.proofs.Tests.{cond-true, cond-false, cond-both}
 use Rattle.state.specs.declared.ActiveLock.{ActiveLock}
-use Rattle.board.specs.Board.{on, entryOf, boardBy, boardOf, entryAt, refreshed, updated}
-use Rattle.board.proofs.Rows.{size-by, entry-by, by-entries, by-same, size-entry, size-at}
+use Rattle.board.specs.Board.{on, entryOf, boardOf, entryAt, refreshed, updated}
+use Rattle.board.proofs.Rows.{entry-by, by-entries, by-same, size-entry, size-at}
 
 -- ---- the update
 module _ (cs l : List ActiveLock) (b : List ℕ) (h : length b ≡ 4352) where
@@ -24,10 +22,6 @@ module _ (cs l : List ActiveLock) (b : List ℕ) (h : length b ≡ 4352) where
 
   row-size : (e : ℕ) → e < 256 → length (row e) ≡ 17
   row-size e k = cond-both (λ (r : List ℕ). length r ≡ 17) (entryOf l e) (entryAt b e) (any (on e) cs) (λ t. size-entry l e) (λ t. size-at b e h k)
-
-  pub size-updated : length (updated cs l b) ≡ 4352
-  unfolding updated refreshed
-  size-updated = size-by row row-size
 
   updated-at : (e : ℕ) → e < 256 → entryAt (updated cs l b) e ≡ row e
   unfolding updated refreshed

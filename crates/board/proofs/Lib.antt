@@ -10,3 +10,4 @@ pub mod Covering
 pub mod Filling
 pub mod Followed
 pub mod Boarding
+pub mod Examples

@@ -42,8 +42,7 @@ use Rattle.board.specs.declared.Checked.the-variants.{UnsoundState, Boar
 use Rattle.board.specs.declared.BoardDropping.the-variants as D
 use Rattle.board.specs.Board.{boardOf, matches, checkOn}
 use Rattle.board.specs.Forms.{Boarded, boarded, told, mismatched, callMoved, performBoard, toldDropped, deleteDefunctBoard, toldStep, mismatchedStep, stepMoved, stepBoard, freshOn}
-use Rattle.board.proofs.Rows.{by-same}
-use Rattle.board.proofs.Rows.{size-board}
+use Rattle.board.proofs.Rows.{by-same, size-board}
 use Rattle.board.proofs.Kept.{follows}
 use Rattle.board.proofs.Moved.{call-moves, delete-defunct-moves, step-moves}
 

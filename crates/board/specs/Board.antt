@@ -44,7 +44,7 @@ lowestOn locks e = idOf (find (on e) locks)
 unfoldable pub entryOf : List ActiveLock → ℕ → List ℕ
 entryOf locks e = countOn locks e ∷ idBytes (lowestOn locks e)
 
--- 0 .. n - 1
+-- n numbers from e on
 unfoldable pub countFrom : ℕ → ℕ → List ℕ
 countFrom e zero = []
 countFrom e (suc n) = e ∷ countFrom (suc e) n

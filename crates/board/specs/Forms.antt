@@ -116,7 +116,7 @@ toldStep st =
       spare = st .spare;
     }
 
--- 28 "moves nothing on": the spare and the place stay, as with 12
+-- 28 moves nothing on: the spare and the place stay, as with 12
 abbrev pub mismatchedStep : Spare → ℕ → BoardStep
 mismatchedStep spare at =
     record {

@@ -6,8 +6,6 @@ ghost use Rattle.lists.specs.Tests.{_and_, _or_};
 ghost use Rattle.coverage.specs.Coverage.{covers};
 ghost use Rattle.board.specs.Code.{Next, Covers};
 
-pub(crate) const ECUS: usize = 256;
-
 // The ECUs that both cover.
 pub(crate) fn common(a: LockCoverage, b: LockCoverage) -> LockCoverage
     ensures { λ r. ⌜ Covers r (λ e. covers a e and covers b e) ⌝ }
@@ -50,7 +48,7 @@ pub(crate) fn next_from(c: LockCoverage, from: usize) -> usize
     }
     let words = [c.w0, c.w1, c.w2, c.w3];
     let mut at = from;
-    while at < ECUS {
+    while at < crate::ECUS {
         let rest = words[at / 64] >> ((at % 64) as u64);
         if rest != 0 {
             return at + u64::trailing_zeros(rest) as usize;

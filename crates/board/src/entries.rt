@@ -13,11 +13,8 @@ ghost use lib.ListN.{length, take};
 ghost use Rattle.coverage.specs.Coverage.{covers};
 ghost use Rattle.records.specs.Numbers.{splice};
 ghost use Rattle.names.specs.Bytes.{sameBytes};
-ghost use Rattle.board.specs.Board.{entryOf, entryAt, refreshed};
+ghost use Rattle.board.specs.Board.{entryAt, refreshed};
 ghost use Rattle.board.specs.Code.{turned, touched, EmptyIn};
-
-// A count, and an id.
-const ENTRY: usize = 17;
 
 // No count passes 64; a sum that goes round needs no test.
 fn count_after(count: u8, adding: bool) -> u8
@@ -33,7 +30,7 @@ fn turn(board: &mut [u8], e: usize, adding: bool, id: LockId)
     requires { ⌜ (e < 256) × (length (now board) ≡ 4352) ⌝ }
     ensures { λ r. ⌜ now (board .exit) ≡ splice (now (board .entry)) (e * 17) (turned adding id (entryAt (now (board .entry)) e)) ⌝ }
 {
-    let at = e * ENTRY;
+    let at = e * crate::ENTRY;
     board[at] = count_after(board[at], adding);
     writing::put_id(board, at + 1, id);
 }
@@ -44,7 +41,7 @@ fn touch(board: &mut [u8], c: LockCoverage, adding: bool, id: LockId)
     ensures { λ r. ⌜ now (board .exit) ≡ touched (covers c) adding id (now (board .entry)) ⌝ }
 {
     let mut e = ecus::next_from(c, 0);
-    while e < ecus::ECUS {
+    while e < crate::ECUS {
         turn(board, e, adding, id);
         e = ecus::next_from(c, e + 1);
     }

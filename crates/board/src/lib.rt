@@ -16,6 +16,7 @@ use image::Writing;
 use image::write;
 use locks::Dropped;
 use locks::Dropping;
+use records::layout;
 use records::requests::Request;
 use rules::Verdict;
 use state::ActiveLock;
@@ -29,8 +30,13 @@ ghost use Rattle.lookups.specs.Reads.{onSound};
 ghost use Rattle.board.specs.Board.{matches, checkOn};
 ghost use Rattle.board.specs.Forms.{boarded, told, mismatched, performBoard, toldDropped, mismatchedDropped, deleteDefunctBoard, toldStep, mismatchedStep, stepBoard, stepFollowed, freshOn};
 
-// The bytes of a board: 256 entries of a count and an id.
-pub const SIZE: usize = 4352;
+pub const ECUS: usize = 256;
+
+// A count, and an id.
+pub const ENTRY: usize = 1 + layout::ID;
+
+// The bytes of a board.
+pub const SIZE: usize = ECUS * ENTRY;
 
 pub enum Checked {
     UnsoundState(u8),
@@ -103,7 +109,7 @@ pub fn matches(state: LockState, board: &[u8]) -> bool
     entries::same(board, &own)
 }
 
-// 12, then 28.
+// 12, then 28: for whoever is handed a state and a board and makes no call.
 pub fn check(state: LockState, board: &[u8]) -> Checked
     ensures { λ r. ⌜ r ≡ checkOn state (now (board .entry)) ⌝ }
 {

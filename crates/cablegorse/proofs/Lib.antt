@@ -5,3 +5,4 @@ pub mod Ranges
 pub mod Asking
 pub mod Buffers
 pub mod Small
+pub mod Boarded

@@ -5,3 +5,4 @@ pub mod Replies
 pub mod Changes
 pub mod Code
 pub mod Chunks
+pub mod Boards

@@ -1,24 +1,45 @@
-// The board of control units at the boundary: made, and kept beside the image by each change.
+// The board of control units at the boundary: made from an image, and kept beside it by each change.
 // SPDX-License-Identifier: Apache-2.0
 use crate::Applied;
 use crate::Told;
-use crate::arguments;
-use crate::arguments::Scoped;
 use crate::changes;
 use crate::papers;
-use board::Checked;
 use feed::events::Step;
-use ids::LockId;
 use image::Writing;
 use image::read;
+use rules::Verdict;
 use state::LockState;
 ghost use mathlib.Core.Path.{_≡_};
+ghost use mathlib.Core.List.{[], _∷_};
+ghost use Rattle.lists.specs.Papers.{paper};
+ghost use Rattle.lookups.specs.Reads.{onSound};
+ghost use Rattle.image.specs.Image.{writingPaper};
 ghost use Rattle.cablegorse.specs.Telling.{toldOf, kept};
-ghost use Rattle.cablegorse.specs.Boards.{boardOfImage, boardChanged, applyBoardOf, deleteBoardOf};
+ghost use Rattle.cablegorse.specs.Changes.{changed, left};
+ghost use Rattle.cablegorse.specs.Code.{stepShown};
+ghost use Rattle.cablegorse.specs.Boards.{boardOfImage, boardTold, boardChanged, followedBy, applyBoardOf, deleteBoardOf};
 
-// 12 or 28, or 0 with the size.
+// BoardMismatch.
+const MISMATCH: u32 = 28;
+
+// The outputs were written.
+const WRITTEN: u32 = 2;
+
+fn of_writing(w: Writing) -> Told
+    ensures { λ r. ⌜ r ≡ toldOf (writingPaper w) ⌝ }
+{
+    match w {
+        Writing::Done(n) => papers::one(0, n as u64),
+        Writing::UnsoundState(rule) => papers::one(12, rule as u64),
+        Writing::ShortOutput(n) => papers::one(21, n as u64),
+    }
+}
+
+// The image's board from the buffer's start on.
 #[no_mangle]
-pub extern "C" fn cablegorse_board(image: &[u8], out: &mut [u8]) -> Told {
+pub extern "C" fn cablegorse_board(image: &[u8], out: &mut [u8]) -> Told
+    ensures { λ r. ⌜ kept r (now (out .exit)) ≡ boardOfImage (now (image .entry)) (now (out .entry)) ⌝ }
+{
     let i = read::read_image(image);
     let why = i.told;
     let t = papers::of_reading(why);
@@ -27,22 +48,40 @@ pub extern "C" fn cablegorse_board(image: &[u8], out: &mut [u8]) -> Told {
     }
     let spare = i.spare;
     let state = spare.state;
-    match board::fresh(state, out) {
-        Writing::Done(n) => papers::one(0, n as u64),
-        Writing::UnsoundState(n) => papers::one(12, n as u64),
-        Writing::ShortOutput(n) => papers::one(21, n as u64),
-    }
+    of_writing(board::fresh(state, out))
 }
 
-fn of_check(c: Checked) -> Told {
-    match c {
-        Checked::UnsoundState(n) => papers::one(12, n as u64),
-        Checked::BoardMismatch => papers::none(28),
-        Checked::Matches => papers::none(0),
+// The board isn't the state's: 12 comes first.
+fn unmatched(state: LockState) -> Told
+    ensures { λ r. ⌜ r ≡ onSound state (λ n. toldOf (paper 12 (n ∷ []))) (toldOf (paper 28 [])) ⌝ }
+{
+    if let Verdict::Broken(rule) = rules::broken(state) {
+        return papers::one(12, rule as u64);
     }
+    papers::none(MISMATCH)
 }
 
-// The record at a place of a feed, applied to the image's spare, and its board with it.
+// All four or none.
+fn put_followed(
+    s: Step,
+    board: &mut [u8],
+    stream: &[u8],
+    at: usize,
+    next: &mut [u8],
+    removed: &mut [u8],
+    expired: &mut [u8],
+) -> Applied
+    ensures { λ r. ⌜ boardChanged (changed r (now (next .exit)) (now (removed .exit)) (now (expired .exit))) (now (board .exit)) ≡ followedBy (now (stream .entry)) at s (now (board .entry)) (stepShown at s (now (next .entry)) (now (removed .entry)) (now (expired .entry))) ⌝ }
+{
+    let done = changes::put_step(s, at, next, removed, expired);
+    if done.part != WRITTEN {
+        return done;
+    }
+    board::follow_step(board, stream, at, s);
+    done
+}
+
+// The record at a place of a feed, applied to the image's spare, and the board with it.
 #[no_mangle]
 pub extern "C" fn cablegorse_apply_board(
     image: &[u8],
@@ -52,7 +91,9 @@ pub extern "C" fn cablegorse_apply_board(
     next: &mut [u8],
     removed: &mut [u8],
     expired: &mut [u8],
-) -> Applied {
+) -> Applied
+    ensures { λ r. ⌜ boardChanged (changed r (now (next .exit)) (now (removed .exit)) (now (expired .exit))) (now (board .exit)) ≡ applyBoardOf (now (image .entry)) (now (board .entry)) (now (stream .entry)) at (now (next .entry)) (now (removed .entry)) (now (expired .entry)) ⌝ }
+{
     let i = read::read_records(image);
     let why = i.told;
     let t = papers::of_reading(why);
@@ -62,17 +103,32 @@ pub extern "C" fn cablegorse_apply_board(
     let spare = i.spare;
     let state = spare.state;
     if !board::matches(state, board) {
-        return changes::still(of_check(board::check(state, board)), 0, 0, at as u64);
+        return changes::still(unmatched(state), 0, 0, at as u64);
     }
     let s = feed::step(spare, stream, at);
-    let done = changes::put_step(s, at, next, removed, expired);
-    if done.part == 2 {
-        board::follow_step(board, stream, at, s);
-    }
-    done
+    put_followed(s, board, stream, at, next, removed, expired)
 }
 
-// A defunct entry deleted, with the image's board beside it, which stays.
+// An image and a board: the image's refusals, then 28.
+fn board_told(image: &[u8], board: &[u8]) -> Told
+    ensures { λ r. ⌜ r ≡ boardTold (now (image .entry)) (now (board .entry)) ⌝ }
+{
+    let i = read::read_image(image);
+    let why = i.told;
+    let t = papers::of_reading(why);
+    if t.number != 0 {
+        return t;
+    }
+    let spare = i.spare;
+    let state = spare.state;
+    if board::matches(state, board) {
+        return papers::none(0);
+    }
+    papers::none(MISMATCH)
+}
+
+// A defunct entry deleted, with the image's board beside it. The image is read once more for the board: people delete
+// entries, feeds don't.
 #[no_mangle]
 pub extern "C" fn cablegorse_delete_defunct_board(
     image: &[u8],
@@ -83,24 +139,12 @@ pub extern "C" fn cablegorse_delete_defunct_board(
     number: u8,
     subject: u16,
     next: &mut [u8],
-) -> Applied {
-    let i = read::read_image(image);
-    let why = i.told;
-    let t = papers::of_reading(why);
+) -> Applied
+    ensures { λ r. ⌜ left r (now (next .exit)) ≡ deleteBoardOf (now (image .entry)) (now (board .entry)) hi lo kind number subject (now (next .entry)) ⌝ }
+{
+    let t = board_told(image, board);
     if t.number != 0 {
         return changes::still(t, 0, 0, 0);
     }
-    let spare = i.spare;
-    let state = spare.state;
-    if !board::matches(state, board) {
-        return changes::still(papers::none(28), 0, 0, 0);
-    }
-    let k = arguments::scope_in(kind as u64, number as u64);
-    match k {
-        Scoped::Bad => changes::still(papers::one(19, 0), 1, 0, 0),
-        Scoped::At(scope) => {
-            let d = locks::delete_defunct(state, LockId { hi, lo }, scope, subject);
-            changes::put_dropped(d, spare.expected, next)
-        }
-    }
+    changes::cablegorse_delete_defunct(image, hi, lo, kind, number, subject, next)
 }

@@ -47,14 +47,20 @@ fn applied(
 }
 
 // Nothing was written.
-fn still(t: Told, part: u32, sequence: u32, place: u64) -> Applied
+pub(crate) fn still(t: Told, part: u32, sequence: u32, place: u64) -> Applied
     ensures { λ r. ⌜ r ≡ still t part sequence place ⌝ }
 {
     applied(t, part, sequence, place, 0, 0, 0)
 }
 
 // All three outputs or none. 12 is the image's refusal: the step is where its state is tested.
-fn put_step(s: Step, at: usize, next: &mut [u8], removed: &mut [u8], expired: &mut [u8]) -> Applied
+pub(crate) fn put_step(
+    s: Step,
+    at: usize,
+    next: &mut [u8],
+    removed: &mut [u8],
+    expired: &mut [u8],
+) -> Applied
     ensures { λ r. ⌜ changed r (now (next .exit)) (now (removed .exit)) (now (expired .exit)) ≡ stepShown at s (now (next .entry)) (now (removed .entry)) (now (expired .entry)) ⌝ }
 {
     let told = s.told;

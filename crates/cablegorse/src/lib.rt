@@ -5,6 +5,7 @@ ghost use mathlib.Core.Path.{_≡_};
 ghost use Rattle.cablegorse.specs.Boundary.{classOf, testOf, prepareOf};
 
 mod arguments;
+pub mod boards;
 pub mod changes;
 pub mod chunks;
 mod events;

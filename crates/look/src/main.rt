@@ -2,13 +2,13 @@
 // does for the name -.
 // SPDX-License-Identifier: Apache-2.0
 use coverage::LockCoverage;
-use ids::LockId;
-use image::Reading;
 use image::Spare;
-use image::read;
-use libc::STDOUT_FILENO;
 use lookups::Holder;
 use lookups::reads;
+use printing::Given;
+use printing::id;
+use printing::number;
+use printing::say;
 use state::ActiveLock;
 use state::DefunctLock;
 use state::Lock;
@@ -16,21 +16,6 @@ use state::LockState;
 use state::ScopeKey;
 
 mod text;
-
-fn say(t: &[u8]) {
-    io::write_all(STDOUT_FILENO, t);
-}
-
-fn number(what: &[u8], n: u64) {
-    say(what);
-    io::print_decimal(STDOUT_FILENO, n);
-}
-
-fn id(what: &[u8], id: LockId) {
-    say(what);
-    let t = text::id_text(id);
-    say(&t);
-}
 
 fn scope(k: ScopeKey) {
     match k {
@@ -157,58 +142,17 @@ fn whole(spare: Spare) {
     defuncts(s);
 }
 
-// The refusal's number, its name, and its offset or rule.
-fn refused(n: u64, name: &[u8], value: u64) {
-    number(b"refused ", n);
-    say(name);
-    number(b" ", value);
-    say(b"\n");
-}
-
-fn look(image: &[u8]) {
-    let r = read::read_image(image);
-    let told = r.told;
-    match told {
-        Reading::Done => {
-            let spare = r.spare;
-            whole(spare);
-        }
-        Reading::Torn(at) => refused(17, b" Torn at", at as u64),
-        Reading::BadKind(at) => refused(18, b" BadKind at", at as u64),
-        Reading::BadField(at) => refused(19, b" BadField at", at as u64),
-        Reading::BadOrder(at) => refused(20, b" BadOrder at", at as u64),
-        Reading::UnsoundState(rule) => refused(12, b" UnsoundState rule", rule as u64),
+fn look(given: Given) {
+    if given.accepted {
+        let spare = given.spare;
+        whole(spare);
     }
-}
-
-// No image is as long as the buffer: one that fills it has extra bytes.
-fn look_at(fd: i32) {
-    let mut bytes = io::large_buffer();
-    let n = io::read_full(fd, &mut bytes);
-    look(&bytes[..n]);
-}
-
-fn is_dash(name: &[u8]) -> bool {
-    if name.len() != 1 {
-        return false;
-    }
-    name[0] == b'-'
 }
 
 fn look_into(name: &[u8]) {
     say(name);
     say(b":\n");
-    if is_dash(name) {
-        look_at(0);
-        return;
-    }
-    let fd = os::open_read(name);
-    if fd < 0 {
-        os::fail(name);
-        return;
-    }
-    look_at(fd);
-    libc::close(fd);
+    look(printing::image_in(name));
 }
 
 fn argument(i: usize) {
@@ -220,7 +164,7 @@ fn argument(i: usize) {
 fn main() {
     let n = os::arg_count();
     if n < 2 {
-        look_at(0);
+        look(printing::image_in(b"-"));
         return;
     }
     let mut i: usize = 1;

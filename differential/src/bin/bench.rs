@@ -1,7 +1,7 @@
 // SPDX-License-Identifier: Apache-2.0
 //! Times the by-feed boundary beside the original, in one run: each operation at four sizes, and
-//! two feeds of 65,536 bytes, record by record and each in one call. For bench/stack it makes one
-//! call in a thread of a given size. A ratio is the original's time / the library's: above 1 the
+//! the same without and with a board, and two feeds of 65,536 bytes, record by record and each in
+//! one call. For bench/stack it makes one call in a thread of a given size. A ratio is the original's time / the library's: above 1 the
 //! library is faster. Beside the ratios stand the aims of docs/BENCH.md.
 //!
 //! Ours is `cablegorse_apply` whole: image read and tested, record read, operation, next image
@@ -32,6 +32,7 @@ use cablegorse::{
 };
 use oracle::{
     bench::{Cell, SIZES, operations, rows, state},
+    board,
     generate::{self, Case, Profile, Rng},
     judge::Judge,
     model::{Coverage, Id, IdList, Operation, Scope, State},
@@ -70,6 +71,7 @@ fn main() -> ExitCode {
         return ExitCode::from(2);
     };
     operations_table(Duration::from_millis(cell));
+    boards_table(Duration::from_millis(cell));
     feeds(Duration::from_millis(cell * 4));
     ExitCode::SUCCESS
 }
@@ -77,6 +79,8 @@ fn main() -> ExitCode {
 /// What the library is given for one operation, or to follow a chunk.
 struct Ours {
     image: Vec<u8>,
+    /// The image's own.
+    board: Vec<u8>,
     /// None: the record is a chunk.
     operation: Option<Operation>,
     record: Vec<u8>,
@@ -100,6 +104,7 @@ impl Ours {
     fn of(state: &State, operation: Option<Operation>, record: Vec<u8>) -> Self {
         Self {
             image: wire::write_image(state, 0).expect("a sound state"),
+            board: board::board(state),
             operation,
             record,
             next: vec![0; IMAGE_LIMIT],
@@ -135,6 +140,31 @@ impl Ours {
         )
         .told
         .number
+    }
+
+    /// The record with the image's board.
+    fn call_with(&mut self, board: &mut [u8]) -> u32 {
+        library::apply_board(
+            black_box(&self.image),
+            black_box(board),
+            black_box(&self.record),
+            0,
+            &mut self.next,
+            &mut self.removed,
+            &mut self.expired,
+        )
+        .told
+        .number
+    }
+
+    /// A board for each call, since a call leaves the next image's.
+    fn batch_with_boards(&mut self) -> Duration {
+        let mut boards = vec![self.board.clone(); BATCH];
+        let start = Instant::now();
+        for board in &mut boards {
+            black_box(self.call_with(board));
+        }
+        start.elapsed()
     }
 
     fn batch(&mut self) -> Duration {
@@ -246,6 +276,32 @@ fn operations_table(cell: Duration) {
         print!("{name:<22}");
         for (ratio, aim) in row.into_iter().zip(AIMS) {
             print!("{:>24}", held(ratio, aim));
+        }
+        println!();
+    }
+    println!();
+}
+
+/// What the board costs a record: `cablegorse_apply_board` beside `cablegorse_apply`.
+fn boards_table(cell: Duration) {
+    println!("ns a record (tenth percentile): without a board, with the image's, what it costs");
+    heading("");
+    for (name, cells) in rows() {
+        if name == "delete_defunct" {
+            continue;
+        }
+        print!("{name:<22}");
+        for of in &cells {
+            let mut ours = Ours::new(&of.state, &of.operation);
+            let (mut plain, mut boarded) = (Vec::new(), Vec::new());
+            let start = Instant::now();
+            while start.elapsed() < cell || plain.len() < 50 {
+                plain.push(ours.batch());
+                boarded.push(ours.batch_with_boards());
+            }
+            let (plain, boarded) = (tenth(plain), tenth(boarded));
+            let cost = boarded - plain;
+            print!("{:>24}", format!("{plain:.0} {boarded:.0} {cost:+.0}"));
         }
         println!();
     }

@@ -1,6 +1,6 @@
 // SPDX-License-Identifier: Apache-2.0
 //! Writes first inputs for the fuzzer: small sound states with a record, a chunk of records, a
-//! read or a deletion.
+//! read or a deletion, or with a board and a record or a deletion.
 //!
 //! ```text
 //! corpus FOLDER [INPUTS]
@@ -9,7 +9,7 @@
 use std::{env, fs, path::PathBuf, process::ExitCode};
 
 use oracle::{
-    boundary,
+    board, boundary,
     generate::{self, Case, Profile, Rng},
     model::{Operation, Scope},
     wire,
@@ -42,7 +42,7 @@ fn input(seed: u64) -> Vec<u8> {
     let case = Case::of(&mut rng, profile);
     let expected = [0, 5, u32::MAX][rng.below(3)];
     let image = wire::write_image(&case.state, expected).expect("a sound state");
-    let (function, extra, rest) = match rng.below(5) {
+    let (function, extra, rest) = match rng.below(8) {
         0 => {
             let kind = rng.below(14);
             let read = generate::read_of(&mut rng, &case, kind);
@@ -54,6 +54,14 @@ fn input(seed: u64) -> Vec<u8> {
         }
         1 => (3, 0, deletion(&generate::operation_of(&mut rng, &case, 8))),
         2 => (6, 0, generate::feed(&mut rng, &case, expected, 5)),
+        3..5 => {
+            let feed = generate::feed(&mut rng, &case, expected, 2);
+            (7, 0, [how_lent(&mut rng), feed].concat())
+        }
+        5 => {
+            let operation = generate::operation_of(&mut rng, &case, 8);
+            (8, 0, [how_lent(&mut rng), deletion(&operation)].concat())
+        }
         _ => (0, 0, generate::feed(&mut rng, &case, expected, 2)),
     };
     let mut bytes = vec![function, 2 + 8 * 5, extra];
@@ -61,6 +69,16 @@ fn input(seed: u64) -> Vec<u8> {
     bytes.extend(image);
     bytes.extend(rest);
     bytes
+}
+
+/// The image's own board, of its size; now and then with a byte changed.
+fn how_lent(rng: &mut Rng) -> Vec<u8> {
+    let size = 4 * 3;
+    if rng.percent(70) {
+        return vec![size];
+    }
+    let [low, high] = (rng.below(board::SIZE) as u16).to_le_bytes();
+    vec![size + 1, low, high, 1]
 }
 
 fn deletion(operation: &Operation) -> Vec<u8> {

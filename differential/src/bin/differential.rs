@@ -242,6 +242,9 @@ fn bytes_part(threads: u64) -> Option<Tally> {
     })?;
     tally.add(&of_lengths);
     tally.add(&guarded("argument", 0, || Run::every_argument(&image))?);
+    tally.add(&guarded("board", 0, || {
+        Run::every_board_byte(&image, &records[0])
+    })?);
     let chunk = in_turn(&records);
     tally.add(&guarded("chunk", 0, || Run::every_cut(&image, &chunk))?);
     Some(tally)
@@ -281,7 +284,7 @@ fn whole(operations: u64, seed: u64, threads: u64) -> ExitCode {
         return ExitCode::FAILURE;
     };
     println!(
-        "every byte of an image and of a record of each kind, every length, every argument, every cut of a chunk: {} calls, no difference ({:.0} s)",
+        "every byte of an image, of its board and of a record of each kind, every length, every argument, every cut of a chunk: {} calls, no difference ({:.0} s)",
         sum.calls + sum.operations,
         start.elapsed().as_secs_f64()
     );
@@ -368,6 +371,18 @@ fn seldom(sum: &Tally) -> ExitCode {
         let count = sum.count(seen);
         if count < asked {
             println!("SELDOM: {seen} was seen {count} times, {asked} are asked for");
+            code = ExitCode::FAILURE;
+        }
+    }
+    for operation in [
+        "insert_active",
+        "insert_vehicle",
+        "delete",
+        "begin_expiration",
+        "commit_replacement",
+    ] {
+        if sum.changed_entries(operation) < OFTEN {
+            println!("SELDOM: entries of boards that {operation} changed");
             code = ExitCode::FAILURE;
         }
     }

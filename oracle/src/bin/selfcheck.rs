@@ -1,7 +1,8 @@
 // SPDX-License-Identifier: Apache-2.0
 //! Runs random sound states and operations through the judge and checks it against itself:
 //! states stay sound, images come back, the restated document 01 agrees, stories are kept where
-//! 02 says so, and every answer and every change of a story is seen.
+//! 02 says so, boards are those of the restated 02, and every answer and every change of a story
+//! is seen.
 //!
 //! ```text
 //! selfcheck [STATES] [SEED] [OPERATIONS A STATE]
@@ -12,6 +13,7 @@ use std::{collections::BTreeMap, env, process::ExitCode};
 
 use oracle::{
     answer::{Outcome, Refusal, Seen},
+    board,
     generate::{self, Case, Profile, Rng},
     judge::{self, Event, Judge, Spare},
     model::{ACTIVE_LIMIT, Coverage, DEFUNCT_LIMIT, Id, Operation, Scope, State},
@@ -176,6 +178,24 @@ impl Run {
         let paper = paper::apply(before, operation);
         assert_eq!(outcome, paper, "01 and the original differ: {}", at());
         self.stories(before, operation, &outcome.state);
+        self.boards(before, operation, &outcome.state);
+    }
+
+    /// The board before and after, and which entries changed: 02, C-11.
+    fn boards(&mut self, before: &State, operation: &Operation, after: &State) {
+        if before == after {
+            return;
+        }
+        let boards = [before, after].map(board::board);
+        assert_eq!(boards, [before, after].map(paper::board), "{operation:?}");
+        let entries = board::changed_by(&board::moved(before, after), &boards[0], &boards[1]);
+        let changed = match entries {
+            0 => "no entry changed",
+            256 => "every entry changed",
+            _ => "some entries changed",
+        };
+        self.seen
+            .see("boards", format!("{}: {changed}", operation.name()));
     }
 
     /// What the original tells of every remaining entry, before and after: 02, C-20.

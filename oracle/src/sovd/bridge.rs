@@ -135,6 +135,28 @@ impl Original {
         }
     }
 
+    /// For each ECU how many active locks cover it, and the lowest id among them: by the map of
+    /// locks and each lock's own set of names.
+    #[must_use]
+    pub fn on_ecus(&self) -> [(u8, Option<Id>); 256] {
+        let mut on = [(0, None); 256];
+        for lock in self.0.active() {
+            let id = id_of(&lock.id);
+            let count = |ecu: u8| {
+                let (locks, lowest): &mut (u8, Option<Id>) = &mut on[usize::from(ecu)];
+                *locks += 1;
+                *lowest = Some(lowest.map_or(id, |other| other.min(id)));
+            };
+            match &lock.coverage {
+                LockCoverage::Vehicle => (0..=255).for_each(count),
+                LockCoverage::Ecus(names) => {
+                    names.iter().map(|name| number(name, "ecu")).for_each(count);
+                }
+            }
+        }
+        on
+    }
+
     /// The original's own test of a state.
     #[must_use]
     pub fn is_valid(&self) -> bool {

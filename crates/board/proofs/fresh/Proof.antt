@@ -4,7 +4,7 @@ use mathlib.Core.Path.{sym, _∙_}
 use denote.Ref.{now}
 use lib.Seq.{length-take-le}
 use native.Mathlib.Omega.{arith}
-use Rattle.lookups.proofs.Verdicts.{on-broken, on-sound, actives-fit}
+use Rattle.lookups.proofs.Verdicts.{on-broken, actives-fit}
 use Rattle.board.specs.Forms.{freshOn}
 use borrow.Author.Needs.{needs}
 use Rattle.board.proofs.fresh.Statement.{statement}

@@ -6,8 +6,9 @@ use Rattle.look.proofs.main.Tie as tie
 use Rattle.look.proofs.main.Reads as reads
 use Rattle.look.proofs.main.Lts as lts
 use Rattle.look.proofs.argument.Reads as argument-reads
-use Rattle.look.proofs.look_at.Reads as look-at-reads
+use Rattle.look.proofs.look.Reads as look-reads
 use Rattle.os.proofs.arg_count.Reads as arg-count-reads
+use Rattle.printing.proofs.image_in.Reads as image-in-reads
 
 abbrev Inv-loop : tie.InvT-loop
 Inv-loop n i₀ i = 0 ≤ i
@@ -18,8 +19,14 @@ abbrev μ-loop : tie.MeasureT-loop
 arg-count-requires : tie.Need-arg-count-requires Inv-loop μ-loop
 arg-count-requires c κs = search needs
 
-look-at-requires : tie.Need-look-at-requires Inv-loop μ-loop
-look-at-requires c κs = search needs
+slice-aggregate-image-in : tie.Need-slice-aggregate-image-in Inv-loop μ-loop
+slice-aggregate-image-in c = search needs
+
+image-in-requires : tie.Need-image-in-requires Inv-loop μ-loop
+image-in-requires c κs = search needs
+
+look-requires : tie.Need-look-requires Inv-loop μ-loop
+look-requires c κs = search needs
 
 returns : tie.Need-returns Inv-loop μ-loop
 returns c = search needs
@@ -49,7 +56,9 @@ main-spec =
     Inv-loop
     μ-loop
     arg-count-requires
-    look-at-requires
+    slice-aggregate-image-in
+    image-in-requires
+    look-requires
     returns
     loop-holds
     argument-requires

@@ -1,11 +1,11 @@
--- `look::text::four` meets its contract: four digits. Assumes nothing.
-use Rattle.look.specs.Text.{fourOf}
+-- `printing::text::four` meets its contract: four digits. Assumes nothing.
+use Rattle.printing.specs.Text.{fourOf}
 use borrow.Author.Needs.{needs}
-use Rattle.look.proofs.text.four.Statement.{statement}
-use Rattle.look.proofs.text.four.Tie as tie
-use Rattle.look.proofs.text.four.Reads as reads
-use Rattle.look.proofs.text.four.Lts as lts
-use Rattle.look.proofs.text.digit.Reads as digit-reads
+use Rattle.printing.proofs.text.four.Statement.{statement}
+use Rattle.printing.proofs.text.four.Tie as tie
+use Rattle.printing.proofs.text.four.Reads as reads
+use Rattle.printing.proofs.text.four.Lts as lts
+use Rattle.printing.proofs.text.digit.Reads as digit-reads
 
 digit-requires : tie.Need-digit-requires
 digit-requires c κs = search needs

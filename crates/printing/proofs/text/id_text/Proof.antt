@@ -1,11 +1,11 @@
--- `look::text::id_text` meets its contract: eight groups of four digits. Assumes nothing.
-use Rattle.look.proofs.Spelling.{spelled}
+-- `printing::text::id_text` meets its contract: eight groups of four digits. Assumes nothing.
+use Rattle.printing.proofs.Spelling.{spelled}
 use borrow.Author.Needs.{needs}
-use Rattle.look.proofs.text.id_text.Statement.{statement}
-use Rattle.look.proofs.text.id_text.Tie as tie
-use Rattle.look.proofs.text.id_text.Reads as reads
-use Rattle.look.proofs.text.id_text.Lts as lts
-use Rattle.look.proofs.text.four.Reads as four-reads
+use Rattle.printing.proofs.text.id_text.Statement.{statement}
+use Rattle.printing.proofs.text.id_text.Tie as tie
+use Rattle.printing.proofs.text.id_text.Reads as reads
+use Rattle.printing.proofs.text.id_text.Lts as lts
+use Rattle.printing.proofs.text.four.Reads as four-reads
 
 four-requires : tie.Need-four-requires
 four-requires c κs = search needs

@@ -1,11 +1,11 @@
--- `look::text::digit` meets its contract by its two cases. Assumes nothing.
+-- `printing::text::digit` meets its contract by its two cases. Assumes nothing.
 use Prim.Native.Nat.{_%_}
 use borrow.Author.Tests.{lt-ltb, le-ltb}
 use borrow.Author.Needs.{needs}
-use Rattle.look.proofs.text.digit.Statement.{statement}
-use Rattle.look.proofs.text.digit.Tie as tie
-use Rattle.look.proofs.text.digit.Reads as reads
-use Rattle.look.proofs.text.digit.Lts as lts
+use Rattle.printing.proofs.text.digit.Statement.{statement}
+use Rattle.printing.proofs.text.digit.Tie as tie
+use Rattle.printing.proofs.text.digit.Reads as reads
+use Rattle.printing.proofs.text.digit.Lts as lts
 
 cast-d : tie.Need-cast-d
 cast-d c = search needs
