@@ -168,6 +168,22 @@ impl fmt::Display for Screen {
     }
 }
 
+/// What a field says under the pointer.
+fn title(ecu: usize, field: &Covered) -> String {
+    let (locks, lowest, subject) = (field.locks, field.lowest, field.subject);
+    let other = field
+        .other
+        .map_or(String::new(), |other| format!(", also subject {other}"));
+    let vehicle = if field.vehicle {
+        ", the vehicle lock too"
+    } else {
+        ""
+    };
+    format!(
+        "<title>ECU {ecu}: {locks} locks, the lowest {lowest} of subject {subject}{other}{vehicle}</title>"
+    )
+}
+
 fn drawn(ecu: usize, field: Option<&Covered>) -> String {
     let (width, height) = FIELD;
     let (x, y) = (LEFT + ecu % 16 * width, TOP + ecu / 16 * height);
@@ -192,21 +208,16 @@ fn drawn(ecu: usize, field: Option<&Covered>) -> String {
     };
     let Covered {
         locks,
-        lowest,
         subject,
         other,
         vehicle,
+        ..
     } = field;
-    let mut svg =
-        format!("<g><title>ECU {ecu}: {locks} locks, the lowest {lowest} of subject {subject}");
-    if let Some(other) = other {
-        let _ = write!(svg, ", also subject {other}");
-    }
-    if *vehicle {
-        svg.push_str(", the vehicle lock too");
-    }
-    svg.push_str("</title>");
-    svg.push_str(&box_of(&colour(*subject), stroke));
+    let mut svg = format!(
+        "<g>{}{}",
+        title(ecu, field),
+        box_of(&colour(*subject), stroke)
+    );
     let (right, bottom) = (x + width, y + height);
     if let Some(other) = other {
         let corner = format!("M{right} {}V{bottom}H{}Z", y + 15, x + 10);

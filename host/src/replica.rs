@@ -187,6 +187,10 @@ impl Replica {
     /// assert_eq!(replica.on_ecu(7), Some(OnEcu { locks: 0, lowest: None }));
     /// # Ok::<(), cablegorse::ListTooLong>(())
     /// ```
+    ///
+    /// # Panics
+    ///
+    /// If the library makes no board of an image that it accepted, against its contract.
     pub fn watch(&mut self) {
         let mut board = Box::new([0; BOARD_BYTES]);
         let told = library::board(&self.image, &mut board[..]);
