@@ -10,7 +10,7 @@ use oracle::{
     model::Operation,
 };
 
-use crate::pair::{Buffers, Subject, applied, hex, parts, told};
+use crate::pair::{Buffers, Subject, applied, deletion, hex, told};
 
 /// A board that isn't this one: a byte is changed, or its size.
 pub fn another(rng: &mut Rng, own: &[u8]) -> Vec<u8> {
@@ -140,14 +140,7 @@ pub fn delete_defunct(
     operation: &Operation,
     length: usize,
 ) -> Applied {
-    let Operation::DeleteDefunct {
-        id,
-        scope,
-        subject: owner,
-    } = operation
-    else {
-        panic!("not delete_defunct: {operation:?}");
-    };
+    let (id, scope, owner) = deletion(operation);
     buffers.fill([length, 0, 0]);
     let due = if lent == subject.board {
         let (judge, expected) = (&*subject.judge, subject.expected);
@@ -155,8 +148,7 @@ pub fn delete_defunct(
     } else {
         boundary::mismatch(0)
     };
-    let (image, id) = (subject.image, id.words());
-    same_deletion(buffers, (image, lent), id, parts(*scope), *owner, &due);
+    same_deletion(buffers, (subject.image, lent), id, scope, owner, &due);
     due
 }
 

@@ -186,12 +186,20 @@ fn same_follow(buffers: &mut Buffers, image: &[u8], chunk: &[u8], due: &Followed
     }
 }
 
-pub(crate) fn parts(scope: Scope) -> (u8, u8) {
+fn parts(scope: Scope) -> (u8, u8) {
     match scope {
         Scope::Vehicle => (0, 0),
         Scope::Ecu(ecu) => (1, ecu),
         Scope::Group(group) => (2, group),
     }
+}
+
+/// What `delete_defunct` is called with: the id, the scope and who asks.
+pub(crate) fn deletion(operation: &Operation) -> ([u64; 2], (u8, u8), u16) {
+    let Operation::DeleteDefunct { id, scope, subject } = operation else {
+        panic!("not delete_defunct: {operation:?}");
+    };
+    (id.words(), parts(*scope), *subject)
 }
 
 /// `delete_defunct` on both sides.
@@ -201,14 +209,7 @@ pub fn delete_defunct(
     operation: &Operation,
     length: impl FnOnce(usize) -> usize,
 ) -> Applied {
-    let Operation::DeleteDefunct {
-        id,
-        scope,
-        subject: owner,
-    } = operation
-    else {
-        panic!("not delete_defunct: {operation:?}");
-    };
+    let (id, scope, owner) = deletion(operation);
     let needed = subject.image.len();
     buffers.fill([length(needed), 0, 0]);
     let due = boundary::dropped(
@@ -219,9 +220,9 @@ pub fn delete_defunct(
     );
     let got = applied(library::delete_defunct(
         subject.image,
-        id.words(),
-        parts(*scope),
-        *owner,
+        id,
+        scope,
+        owner,
         &mut buffers.ours[0],
     ));
     if got != due || buffers.ours != buffers.theirs {
