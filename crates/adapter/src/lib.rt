@@ -1,6 +1,8 @@
 // The adapter's one running state, lent for change: each function makes its operation on the state behind the reference,
 // leaves there the state that the operation gives, refused or not, and tells what the operation told.
 // SPDX-License-Identifier: Apache-2.0
+#![tactic(auto)]
+
 pub mod by_value;
 
 ghost use Rattle.std.specs.Prelude.{◌≡◌};
@@ -25,7 +27,7 @@ use records::requests::Request;
 use state::{ActiveLock, LockState, ScopeKey};
 
 // What is told, and the generation that holds afterwards.
-#[derive(Drop)]
+#[derive(Clone, Copy)]
 struct Updated {
     told: Update,
     generation: u64,

@@ -2,6 +2,8 @@
 // image. Each turn's revision comes from the turn before, so that no turn can be left out; what is printed is the sum over all.
 // With 16 more in the first byte it is the answer of one call.
 // SPDX-License-Identifier: Apache-2.0
+#![tactic(auto)]
+
 use ids::LockId;
 use image::{Spare, Writing};
 use operations::answers::{

@@ -1,6 +1,8 @@
 // A board of control units: beside the state, for each ECU how many active locks cover it and the lowest id among them. A call
 // with a board is the plain call, or 28.
 // SPDX-License-Identifier: Apache-2.0
+#![tactic(auto)]
+
 mod changes;
 mod ecus;
 mod entries;
@@ -32,7 +34,7 @@ pub const ENTRY: usize = 1 + layout::ID;
 // The bytes of a board.
 pub const SIZE: usize = ECUS * ENTRY;
 
-#[derive(Drop)]
+#[derive(Clone, Copy)]
 pub enum Checked {
     UnsoundState(u8),
     BoardMismatch,
@@ -40,14 +42,14 @@ pub enum Checked {
 }
 
 // 28, or what the plain call answered.
-#[derive(Drop)]
+#[derive(Clone, Copy)]
 pub enum BoardOutcome {
     BoardMismatch,
     Told(Outcome),
 }
 
 // As Performed of calls, the state apart: it is what an adapter lends.
-#[derive(Drop)]
+#[derive(Clone, Copy)]
 pub struct BoardDeed {
     pub outcome: BoardOutcome,
     pub gone: usize,
@@ -56,32 +58,32 @@ pub struct BoardDeed {
     pub ids: [LockId; LockState::DEFUNCT],
 }
 
-#[derive(Drop)]
+#[derive(Clone, Copy)]
 pub struct BoardPerformed {
     pub told: BoardDeed,
     pub state: LockState,
 }
 
-#[derive(Drop)]
+#[derive(Clone, Copy)]
 pub enum BoardDropping {
     BoardMismatch,
     Told(Dropping),
 }
 
-#[derive(Drop)]
+#[derive(Clone, Copy)]
 pub struct BoardDropped {
     pub told: BoardDropping,
     pub state: LockState,
 }
 
-#[derive(Drop)]
+#[derive(Clone, Copy)]
 pub enum BoardEvent {
     BoardMismatch,
     Told(Event),
 }
 
 // As Told of feed. 28 leaves the place where it is, and the spare.
-#[derive(Drop)]
+#[derive(Clone, Copy)]
 pub struct BoardTold {
     pub event: BoardEvent,
     pub sequence: u32,
@@ -92,7 +94,7 @@ pub struct BoardTold {
     pub ids: [LockId; LockState::DEFUNCT],
 }
 
-#[derive(Drop)]
+#[derive(Clone, Copy)]
 pub struct BoardStep {
     pub told: BoardTold,
     pub spare: Spare,

@@ -18,19 +18,19 @@ pub(crate) const SUBJECTS: u64 = u16::MAX as u64;
 // A scope in one number: its kind times this, and its number.
 pub(crate) const BYTE: u64 = NUMBERS + 1;
 
-#[derive(Drop)]
+#[derive(Clone, Copy)]
 pub enum Scoped {
     Bad,
     At(ScopeKey),
 }
 
-#[derive(Drop)]
+#[derive(Clone, Copy)]
 pub enum LockGiven {
     Refused(Told),
     Lock(ActiveLock),
 }
 
-#[derive(Drop)]
+#[derive(Clone, Copy)]
 pub enum EntryGiven {
     Refused(Told),
     Entry(DefunctLock),

@@ -1,5 +1,7 @@
 // The static library's boundary: what Rust or C calls. Numbers, bools and lent bytes cross it, and nothing else.
 // SPDX-License-Identifier: Apache-2.0
+#![tactic(auto)]
+
 ghost use Rattle.std.specs.Prelude.{◌≡◌};
 ghost use Rattle.cablegorse.specs.Boundary.{class_of, test_of, prepare_of};
 
@@ -19,7 +21,7 @@ pub mod tables;
 
 // number: document 01's, 0 where nothing was refused. The first count of the values stand beside it; the others are 0.
 #[repr(C)]
-#[derive(Drop)]
+#[derive(Clone, Copy)]
 pub struct Told {
     pub number: u32,
     pub count: u32,
@@ -34,7 +36,7 @@ pub struct Told {
 // record's sequence; where the next record starts; the bytes of the next image; how many locks were removed and how many
 // entries expired.
 #[repr(C)]
-#[derive(Drop)]
+#[derive(Clone, Copy)]
 pub struct Applied {
     pub number: u32,
     pub count: u32,
@@ -55,7 +57,7 @@ pub struct Applied {
 // output is too short; the number that is due next; the place after the last record that was read; how many were read, and how
 // many of them applied; the bytes of the next image.
 #[repr(C)]
-#[derive(Drop)]
+#[derive(Clone, Copy)]
 pub struct Followed {
     pub number: u32,
     pub count: u32,
@@ -77,7 +79,7 @@ pub struct Followed {
 // 2 group) and number, coverage its kind (0 the whole vehicle, 1 the set in w0 to w3), child whether it has a parent. given: in
 // 18 whether there is metadata. exclusive, coverage, child and given are 0 or 1.
 #[repr(C)]
-#[derive(Drop)]
+#[derive(Clone, Copy)]
 pub struct Operation {
     pub hi: u64,
     pub lo: u64,

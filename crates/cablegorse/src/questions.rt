@@ -15,7 +15,7 @@ use lookups::{
 use state::{ActiveLock, DefunctLock, LockState};
 
 // What stands in the buffer beside the answer.
-#[derive(Drop)]
+#[derive(Clone, Copy)]
 pub enum Body {
     Nothing,
     Active(ActiveLock),
@@ -24,7 +24,7 @@ pub enum Body {
     Ids(usize),
 }
 
-#[derive(Drop)]
+#[derive(Clone, Copy)]
 pub struct Reply {
     pub told: Told,
     pub body: Body,

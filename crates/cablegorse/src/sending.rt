@@ -17,7 +17,7 @@ use records::{bodies, kinds, layout, sending};
 use rules::Verdict;
 use state::{ActiveLock, Lock, LockState};
 
-#[derive(Drop)]
+#[derive(Clone, Copy)]
 pub enum Asked {
     Refused(Told),
     Request(Request),
@@ -27,7 +27,7 @@ pub enum Asked {
 const LONGEST: usize = layout::FRAME + layout::ROOTS + (kinds::UNITS as usize) * layout::ID;
 
 // The bytes that a step's outputs need.
-#[derive(Drop)]
+#[derive(Clone, Copy)]
 pub struct Sizes {
     pub image: usize,
     pub locks: usize,

@@ -1,5 +1,7 @@
 // Every operation as one call: whoever guards, records or repeats operations does it around `perform`, not eight times.
 // SPDX-License-Identifier: Apache-2.0
+#![tactic(auto)]
+
 ghost use Rattle.std.specs.Prelude.{◌≡◌};
 ghost use Rattle.operations.specs.Insert.{insert_active_on};
 ghost use Rattle.operations.specs.Vehicle.{insert_vehicle_on};
@@ -17,7 +19,7 @@ use records::requests::{ExpirationRequest, RenewRequest, ReplaceRequest, Request
 use state::{ActiveLock, LockState};
 
 // What the operation answered.
-#[derive(Drop)]
+#[derive(Clone, Copy)]
 pub enum Outcome {
     Inserted(Answer),
     VehicleInserted(Answer),
@@ -31,7 +33,7 @@ pub enum Outcome {
 
 // The removed locks stand in the first gone places, the ids of the defunct entries that expired in the first lapsed; blanks
 // after them. The state is the one that the operation left, refused or not.
-#[derive(Drop)]
+#[derive(Clone, Copy)]
 pub struct Performed {
     pub outcome: Outcome,
     pub gone: usize,

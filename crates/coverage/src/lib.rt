@@ -1,11 +1,13 @@
 // LockCoverage: the whole vehicle, or a set of ECUs 0..=255 as the bits of four words.
 // SPDX-License-Identifier: Apache-2.0
+#![tactic(auto)]
+
 ghost use Rattle.std.specs.Prelude.{◌≡◌, ◌≤◌};
 ghost use Rattle.coverage.specs.Coverage.{no_coverage, whole_vehicle, word_of, covers, overlap, lowest_in, spot_of, shared, within, bit_in, with_ecu, with_ecus};
 ghost use Rattle.coverage.specs.Code.{ecu_of, in_both};
 
 // No array in here: an enum may then carry a lock.
-#[derive(Drop)]
+#[derive(Clone, Copy)]
 pub struct LockCoverage {
     pub w0: u64,
     pub w1: u64,
@@ -16,14 +18,14 @@ pub struct LockCoverage {
 
 // Where two coverages that overlap meet: at the lowest ECU that both cover, or with no ECU (two whole vehicles; the whole
 // vehicle and the empty set).
-#[derive(Drop)]
+#[derive(Clone, Copy)]
 pub enum Spot {
     NoEcu,
     Ecu(u8),
 }
 
 // What the test for overlap answers.
-#[derive(Drop)]
+#[derive(Clone, Copy)]
 pub enum Overlap {
     Apart,
     Meets(Spot),

@@ -11,7 +11,7 @@ use image::Spare;
 use state::{ActiveLock, LockState};
 
 // All but the last leave the spare as it is: 12, 17 to 19 with the record's offset, 15 and 16 with the expected number.
-#[derive(Drop)]
+#[derive(Clone, Copy)]
 pub enum Event {
     UnsoundState(u8),
     Torn(usize),
@@ -24,7 +24,7 @@ pub enum Event {
 
 // sequence: the record's, 0 where none was read. next: the place after the record; after 12 and 17 to 19 the place itself.
 // The removed locks stand in the first gone places, the ids of the defunct entries that expired in the first lapsed.
-#[derive(Drop)]
+#[derive(Clone, Copy)]
 pub struct Told {
     pub event: Event,
     pub sequence: u32,
@@ -35,7 +35,7 @@ pub struct Told {
     pub ids: [LockId; LockState::DEFUNCT],
 }
 
-#[derive(Drop)]
+#[derive(Clone, Copy)]
 pub struct Step {
     pub told: Told,
     pub spare: Spare,

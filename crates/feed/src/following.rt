@@ -9,14 +9,14 @@ use crate::events::Event;
 use image::Spare;
 
 // Why a run ended: at the end of the chunk, or where no record could be read (12, 17 to 19).
-#[derive(Drop)]
+#[derive(Clone, Copy)]
 pub enum Stop {
     End,
     At(Event),
 }
 
 // The spare after the last record that was read, the place after it, how many were read and how many of them applied.
-#[derive(Drop)]
+#[derive(Clone, Copy)]
 pub struct Run {
     pub spare: Spare,
     pub place: usize,

@@ -1,5 +1,7 @@
 // The feed: the record at a place is read and, where its number is the one that is due, applied to the spare.
 // SPDX-License-Identifier: Apache-2.0
+#![tactic(auto)]
+
 pub mod events;
 pub mod following;
 pub mod numbers;

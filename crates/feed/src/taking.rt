@@ -9,7 +9,7 @@ use records::requests::{Asked, Request};
 use records::{frame, kinds, requests};
 
 // A record at its place. The ids of a request that has some stay in the body, which the frame finds.
-#[derive(Drop)]
+#[derive(Clone, Copy)]
 pub struct Placed {
     pub sequence: u32,
     pub request: Request,
@@ -17,7 +17,7 @@ pub struct Placed {
 }
 
 // A refusal holds the place where the record starts.
-#[derive(Drop)]
+#[derive(Clone, Copy)]
 pub enum Taken {
     Torn(usize),
     BadKind(usize),

@@ -1,11 +1,13 @@
 // Lock ids: 16 bytes, compared from the first byte; and lists of them as words.
 // SPDX-License-Identifier: Apache-2.0
+#![tactic(auto)]
+
 ghost use Rattle.std.specs.Prelude.{◌≡◌};
 ghost use Rattle.ids.specs.Order.{same_id, before_id};
 ghost use Rattle.ids.specs.Words.{odd_words, listed_in};
 
 // The first eight bytes are hi, the last eight lo, each big-endian.
-#[derive(Drop)]
+#[derive(Clone, Copy)]
 pub struct LockId {
     pub hi: u64,
     pub lo: u64,

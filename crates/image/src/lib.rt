@@ -1,5 +1,7 @@
 // Images: a whole state as records, read and written.
 // SPDX-License-Identifier: Apache-2.0
+#![tactic(auto)]
+
 use records::layout;
 use state::LockState;
 
@@ -13,14 +15,14 @@ pub const LONGEST: usize = layout::HEAD_RECORD
     + LockState::DEFUNCT * layout::DEFUNCT_RECORD;
 
 // A spare adapter: its state, and the sequence number that is due next in the feed.
-#[derive(Drop)]
+#[derive(Clone, Copy)]
 pub struct Spare {
     pub state: LockState,
     pub expected: u32,
 }
 
 // 17 to 20 hold an offset: where the record starts, or the first byte past the last one. UnsoundState (12) holds the rule.
-#[derive(Drop)]
+#[derive(Clone, Copy)]
 pub enum Reading {
     Done,
     Torn(usize),
@@ -31,14 +33,14 @@ pub enum Reading {
 }
 
 // After a refusal the spare is empty.
-#[derive(Drop)]
+#[derive(Clone, Copy)]
 pub struct Imaged {
     pub told: Reading,
     pub spare: Spare,
 }
 
 // Done holds the bytes written, ShortOutput (21) those needed.
-#[derive(Drop)]
+#[derive(Clone, Copy)]
 pub enum Writing {
     Done(usize),
     UnsoundState(u8),

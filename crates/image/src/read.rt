@@ -15,7 +15,7 @@ use rules::Verdict;
 use state::{ActiveLock, DefunctLock, LockState};
 
 // HEAD and the place after it, or why there is none.
-#[derive(Drop)]
+#[derive(Clone, Copy)]
 struct Begun {
     told: Reading,
     head: Head,

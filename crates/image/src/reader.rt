@@ -12,7 +12,7 @@ use records::{bodies, frame, kinds};
 use state::{ActiveLock, DefunctLock};
 
 // Which record is due.
-#[derive(Drop)]
+#[derive(Clone, Copy)]
 pub enum Due {
     Head,
     Active,
@@ -20,14 +20,14 @@ pub enum Due {
 }
 
 // A body, from its first byte to the place past its last.
-#[derive(Drop)]
+#[derive(Clone, Copy)]
 pub enum Step {
     Body(usize, usize),
     Refused(Reading),
 }
 
 // at: past the record, or after a refusal where it started.
-#[derive(Drop)]
+#[derive(Clone, Copy)]
 pub struct Stepped {
     pub step: Step,
     pub at: usize,
@@ -71,14 +71,14 @@ fn record_at(image: &[u8], at: usize, due: Due) -> Stepped
 }
 
 // The image, and the place of the next record.
-#[derive(Drop)]
+#[derive(Clone, Copy)]
 pub struct Reader<'a> {
     pub image: &'a [u8],
     pub at: usize,
 }
 
 // A step, and the reader past it.
-#[derive(Drop)]
+#[derive(Clone, Copy)]
 pub struct Moved<'a> {
     pub reader: Reader<'a>,
     pub step: Step,
@@ -116,19 +116,19 @@ pub fn step_from(image: &[u8], at: usize, due: Due) -> Stepped
 }
 
 // A record of each kind that was due, and the place after it.
-#[derive(Drop)]
+#[derive(Clone, Copy)]
 pub enum HeadStep {
     Read(Head, usize),
     Refused(Reading),
 }
 
-#[derive(Drop)]
+#[derive(Clone, Copy)]
 pub enum ActiveStep {
     Read(ActiveLock, usize),
     Refused(Reading),
 }
 
-#[derive(Drop)]
+#[derive(Clone, Copy)]
 pub enum DefunctStep {
     Read(DefunctLock, usize),
     Refused(Reading),

@@ -85,7 +85,7 @@ module _ {A : Type 0} (k : A → ℕ) (v : ℕ) (f : A → A) where
   unchanged : (b : ℕ) (l : List A) → Yes (from k b l) → v < b → map changed l ≡ l
   unchanged b [] t h = refl
   unchanged b (x ∷ xs) t h =
-      let g : b ≤ k x = from→ k b {l = x ∷ xs} {a = x} t (Memᴰ.head refl) in
+      let g : b ≤ k x = from→ k {a = x} b {l = x ∷ xs} t (Memᴰ.head refl) in
       let q : eqb (k x) v ≡ false = ne_eqb (k x) v (λ e. omega arith) in
       rw (q, unchanged (suc (k x)) xs (rest k b x xs t) (omega arith))
 
@@ -103,6 +103,7 @@ module _ {A : Type 0} (p : A → Bool) (l : List A) where
   none_kept e = →no (any p l) (λ t. let w = any→ p l t in some_in (→filter p l w.1 w.2) e)
     where
       some_in : {m : List A} {a : A} → Mem a m → length m ≡ 0 → ⊥
+      some_in {m = []} {a = a} x'' e = elim x'' [ ]
       some_in {m = x ∷ xs} (Memᴰ.head q) e = omega arith
       some_in {m = x ∷ xs} (Memᴰ.tail n) e = omega arith
 

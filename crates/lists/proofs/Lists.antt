@@ -17,7 +17,8 @@ use Rattle.lists.specs.Lists.{all, any, filter, find, Mem, Fresh, from, ascendin
 use Rattle.lists.proofs.Tests.{against, →no, non_yes, yes_non, and_l, and_r, and_i, or_e, or_l, or_r, by, cond_true, cond_false, cond_both}
 
 module _ {A : Type 0} where
-  pub all→ : (p : A → Bool) {l : List A} {a : A} → Yes (all p l) → Mem a l → Yes (p a)
+  pub all→ : (p : A → Bool) {a : A} {l : List A} → Yes (all p l) → Mem a l → Yes (p a)
+  all→ p {a = a} {l = []} t x5 = elim x5 [ ]
   all→ p {l = x ∷ xs} t (Memᴰ.head e) = subst (λ (y : A). Yes (p y)) (sym e) (and_l (p x) (all p xs) t)
   all→ p {l = x ∷ xs} t (Memᴰ.tail m) = all→ p (and_r (p x) (all p xs) t) m
 
@@ -33,11 +34,13 @@ module _ {A : Type 0} where
       go (inl u) r = (x, Memᴰ.head refl, u)
       go (inr u) r = let w = r u in (w.0, Memᴰ.tail w.1, w.2)
 
-  pub →any : (p : A → Bool) {l : List A} {a : A} → Mem a l → Yes (p a) → Yes (any p l)
+  pub →any : (p : A → Bool) {a : A} {l : List A} → Mem a l → Yes (p a) → Yes (any p l)
+  →any p {a = a} {l = []} x5 t = elim x5 [ ]
   →any p {l = x ∷ xs} (Memᴰ.head e) t = or_l (p x) (any p xs) (subst (λ (y : A). Yes (p y)) e t)
   →any p {l = x ∷ xs} (Memᴰ.tail m) t = or_r (p x) (any p xs) (→any p m t)
 
   pub filter→ : (p : A → Bool) (l : List A) {a : A} → Mem a (filter p l) → Mem a l × Yes (p a)
+  filter→ p [] {a = a} m = elim m [ ]
   filter→ p (x ∷ xs) {a} m = go (p x) refl m (λ n. filter→ p xs n)
     where
       go : (b : Bool) → p x ≡ b → Mem a (cond b (x ∷ filter p xs) (filter p xs)) → (Mem a (filter p xs) → Mem a xs × Yes (p a)) → Mem a (x ∷ xs) × Yes (p a)
@@ -46,6 +49,7 @@ module _ {A : Type 0} where
       go false e n r = let w = r n in (Memᴰ.tail w.0, w.1)
 
   pub →filter : (p : A → Bool) (l : List A) {a : A} → Mem a l → Yes (p a) → Mem a (filter p l)
+  →filter p [] {a = a} x'' t = elim x'' [ ]
   →filter p (x ∷ xs) {a} (Memᴰ.head e) t = rw (cond_true (p x) _ _ (subst (λ (y : A). Yes (p y)) e t)) (Memᴰ.head e)
   →filter p (x ∷ xs) {a} (Memᴰ.tail m) t = cond_both (λ l. Mem a l) (x ∷ filter p xs) (filter p xs) (p x) (λ u. Memᴰ.tail (→filter p xs m t)) (λ u. →filter p xs m t)
 
@@ -58,6 +62,7 @@ module _ {A : Type 0} where
       go false q f r = let w = r f in (Memᴰ.tail w.0, w.1)
 
   pub find_none→ : (p : A → Bool) (l : List A) {a : A} → find p l ≡ none → Mem a l → Yes (p a) → ⊥
+  find_none→ p [] {a = a} e x3 t = elim x3 [ ]
   find_none→ p (x ∷ xs) {a} e (Memᴰ.head q) t = some-ne-none x (sym (cond_true (p x) (some x) (find p xs) (subst (λ (y : A). Yes (p y)) q t)) ∙ e)
   find_none→ p (x ∷ xs) {a} e (Memᴰ.tail m) t =
       by (p x) ⊥ (λ u. some-ne-none x (sym (cond_true (p x) (some x) (find p xs) u) ∙ e)) (λ u. find_none→ p xs (sym (cond_false (p x) (some x) (find p xs) u) ∙ e) m t)
@@ -102,9 +107,10 @@ module _ {A : Type 0} where
   filter_le p [] = omega arith
   filter_le p (x ∷ xs) = let h = filter_le p xs in cond_both (λ l. length l ≤ suc (length xs)) (x ∷ filter p xs) (filter p xs) (p x) (λ t. omega arith) (λ t. omega arith)
 
-  pub filter_lt : (p : A → Bool) {l : List A} {a : A} → Mem a l → No ((p a)) → length (filter p l) < length l
-  filter_lt p {l = x ∷ xs} {a} (Memᴰ.head e) t = rw (cond_false (p x) (x ∷ filter p xs) (filter p xs) (subst (λ (y : A). No ((p y))) e t)) (omega (arith, filter_le p xs))
-  filter_lt p {l = x ∷ xs} {a} (Memᴰ.tail m) t = let h = filter_lt p m t in cond_both (λ l. length l < suc (length xs)) (x ∷ filter p xs) (filter p xs) (p x) (λ t. omega arith) (λ t. omega arith)
+  pub filter_lt : (p : A → Bool) {a : A} {l : List A} → Mem a l → No ((p a)) → length (filter p l) < length l
+  filter_lt p {a = a} {l = []} x5 t = elim x5 [ ]
+  filter_lt p {a} {l = x ∷ xs} (Memᴰ.head e) t = rw (cond_false (p x) (x ∷ filter p xs) (filter p xs) (subst (λ (y : A). No ((p y))) e t)) (omega (arith, filter_le p xs))
+  filter_lt p {a} {l = x ∷ xs} (Memᴰ.tail m) t = let h = filter_lt p m t in cond_both (λ l. length l < suc (length xs)) (x ∷ filter p xs) (filter p xs) (p x) (λ t. omega arith) (λ t. omega arith)
 
 pub pigeon : (ks ls : List ℕ) → Fresh ks → ((k : ℕ) → Mem k ks → Mem k ls) → length ks ≤ length ls
 pigeon [] ls f g = omega arith
@@ -130,7 +136,8 @@ module _ {A : Type 0} (k : A → ℕ) where
   cons : (b : ℕ) (x : A) (xs : List A) → b ≤ k x → Yes (from k (suc (k x)) xs) → Yes (from k b (x ∷ xs))
   cons b x xs h t = and_i (leb b (k x)) (from k (suc (k x)) xs) (le-leb b (k x) h) t
 
-  pub from→ : (b : ℕ) {l : List A} {a : A} → Yes (from k b l) → Mem a l → b ≤ k a
+  pub from→ : {a : A} (b : ℕ) {l : List A} → Yes (from k b l) → Mem a l → b ≤ k a
+  from→ {a = a} b {l = []} t x5 = elim x5 [ ]
   from→ b {l = x ∷ xs} t (Memᴰ.head e) = rw e (head_le b x xs t)
   from→ b {l = x ∷ xs} t (Memᴰ.tail m) = omega (arith, head_le b x xs t, from→ (suc (k x)) (rest b x xs t) m)
 
@@ -139,7 +146,7 @@ module _ {A : Type 0} (k : A → ℕ) where
   from_weaken b c (x ∷ xs) h t = cons c x xs (omega (arith, head_le b x xs t)) (rest b x xs t)
 
   -- two entries of one key are one
-  pub from_unique : (b : ℕ) {l : List A} {x y : A} → Yes (from k b l) → Mem x l → Mem y l → k x ≡ k y → x ≡ y
+  pub from_unique : {x : A} (b : ℕ) {l : List A} {y : A} → Yes (from k b l) → Mem x l → Mem y l → k x ≡ k y → x ≡ y
   from_unique b t (Memᴰ.head e) (Memᴰ.head f) q = e ∙ sym f
   from_unique b {l = z ∷ zs} t (Memᴰ.head e) (Memᴰ.tail m) q = absurd (omega (arith, from→ (suc (k z)) (rest b z zs t) m, ap k e))
   from_unique b {l = z ∷ zs} t (Memᴰ.tail m) (Memᴰ.head f) q = absurd (omega (arith, from→ (suc (k z)) (rest b z zs t) m, ap k f))
@@ -164,6 +171,7 @@ module _ {A : Type 0} (k : A → ℕ) where
 
   -- what stands in the list after an insertion
   pub insert→ : (x : A) (l : List A) {a : A} → Mem a (insert_by k x l) → (a ≡ x) ⊎ Mem a l
+  insert→ x [] {a = a} (Memᴰ.tail x6) = elim x6 [ ]
   insert→ x [] (Memᴰ.head e) = inl e
   insert→ x (y ∷ ys) {a} m = go (ltb (k x) (k y)) m (λ n. insert→ x ys n)
     where
@@ -178,6 +186,7 @@ module _ {A : Type 0} (k : A → ℕ) where
   insert_new x (y ∷ ys) = cond_both (λ l. Mem x l) (x ∷ (y ∷ ys)) (y ∷ insert_by k x ys) (ltb (k x) (k y)) (λ u. Memᴰ.head refl) (λ u. Memᴰ.tail (insert_new x ys))
 
   pub insert_old : (x : A) (l : List A) {a : A} → Mem a l → Mem a (insert_by k x l)
+  insert_old x [] {a = a} x'' = elim x'' [ ]
   insert_old x (y ∷ ys) {a} (Memᴰ.head e) = cond_both (λ l. Mem a l) (x ∷ (y ∷ ys)) (y ∷ insert_by k x ys) (ltb (k x) (k y)) (λ u. Memᴰ.tail (Memᴰ.head e)) (λ u. Memᴰ.head e)
   insert_old x (y ∷ ys) {a} (Memᴰ.tail m) = cond_both (λ l. Mem a l) (x ∷ (y ∷ ys)) (y ∷ insert_by k x ys) (ltb (k x) (k y)) (λ u. Memᴰ.tail (Memᴰ.tail m)) (λ u. Memᴰ.tail (insert_old x ys m))
 

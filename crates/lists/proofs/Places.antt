@@ -25,7 +25,8 @@ module _ {A : Type 0} where
   mem_at (x ∷ xs) zero d h = Memᴰ.head refl
   mem_at (x ∷ xs) (suc i) d h = Memᴰ.tail (mem_at xs i d (omega arith))
 
-  pub at_mem : {l : List A} {a : A} (d : A) → Mem a l → (i : ℕ) × (i < length l) × (get_or l i d ≡ a)
+  pub at_mem : {a : A} {l : List A} (d : A) → Mem a l → (i : ℕ) × (i < length l) × (get_or l i d ≡ a)
+  at_mem {a = a} {l = []} d x'' = elim x'' [ ]
   at_mem {l = x ∷ xs} d (Memᴰ.head e) = (0, omega arith, sym e)
   at_mem {l = x ∷ xs} d (Memᴰ.tail m) = let w = at_mem d m in (suc w.0, omega (arith, w.1), w.2)
 

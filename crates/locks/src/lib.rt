@@ -1,5 +1,7 @@
 // Source document 001's functions over the lock state.
 // SPDX-License-Identifier: Apache-2.0
+#![tactic(auto)]
+
 ghost use Rattle.std.specs.Prelude.{◌≡◌, ◌≤◌, take};
 ghost use Rattle.lists.specs.Lists.{find};
 ghost use Rattle.state.specs.Locks.{has_id_d};
@@ -14,7 +16,7 @@ use rules::Verdict;
 use state::{ActiveLock, DefunctLock, LockState, ScopeKey};
 
 // The response class of a refusal number.
-#[derive(Drop)]
+#[derive(Clone, Copy)]
 pub enum Response {
     Nothing,
     BadRequest,
@@ -23,7 +25,7 @@ pub enum Response {
     Forbidden,
 }
 
-#[derive(Drop)]
+#[derive(Clone, Copy)]
 pub enum Owner {
     UnsoundState(u8),
     Nothing,
@@ -31,7 +33,7 @@ pub enum Owner {
 }
 
 // The generation that holds afterwards, or the refusal.
-#[derive(Drop)]
+#[derive(Clone, Copy)]
 pub enum Update {
     UnsoundState(u8),
     FunctionalGroupLocksHeld,
@@ -40,7 +42,7 @@ pub enum Update {
 }
 
 // Done is the original's true, Absent its false.
-#[derive(Drop)]
+#[derive(Clone, Copy)]
 pub enum Dropping {
     Done,
     Absent,
@@ -49,14 +51,14 @@ pub enum Dropping {
     Forbidden,
 }
 
-#[derive(Drop)]
+#[derive(Clone, Copy)]
 pub struct Dropped {
     pub told: Dropping,
     pub state: LockState,
 }
 
 // Whether some active lock is on a group, and whether some is on an ECU.
-#[derive(Drop)]
+#[derive(Clone, Copy)]
 struct Kinds {
     groups: bool,
     ecus: bool,

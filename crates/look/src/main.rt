@@ -1,6 +1,8 @@
 // look [IMAGE..]: prints each image for a person, or why it is refused. Without names it reads standard input, and so it
 // does for the name -.
 // SPDX-License-Identifier: Apache-2.0
+#![tactic(auto)]
+
 use coverage::LockCoverage;
 use image::Spare;
 use lookups::{Holder, reads};

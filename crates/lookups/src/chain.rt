@@ -15,7 +15,7 @@ use ids::LockId;
 use state::{ActiveLock, DefunctLock, LockState};
 
 // The ids of a list by their halves: a search reads numbers and copies no lock.
-#[derive(Drop)]
+#[derive(Clone, Copy)]
 struct Ids {
     hi: [u64; LockState::DEFUNCT],
     lo: [u64; LockState::DEFUNCT],

@@ -1,5 +1,7 @@
 // The reads of the lock state. Each tests the state first (12, with the rule).
 // SPDX-License-Identifier: Apache-2.0
+#![tactic(auto)]
+
 ghost use Rattle.std.specs.Prelude.{◌≡◌};
 ghost use Rattle.lookups.specs.Reads.{on_scope, narrow, group_over, covers_defunct, uncovered};
 
@@ -11,53 +13,53 @@ mod chain;
 pub mod reads;
 mod search;
 
-#[derive(Drop)]
+#[derive(Clone, Copy)]
 pub enum FoundActive {
     UnsoundState(u8),
     Nothing,
     Lock(ActiveLock),
 }
 
-#[derive(Drop)]
+#[derive(Clone, Copy)]
 pub enum FoundDefunct {
     UnsoundState(u8),
     Nothing,
     Lock(DefunctLock),
 }
 
-#[derive(Drop)]
+#[derive(Clone, Copy)]
 pub enum Revision {
     UnsoundState(u8),
     At(u64),
 }
 
-#[derive(Drop)]
+#[derive(Clone, Copy)]
 pub enum Truth {
     UnsoundState(u8),
     Is(bool),
 }
 
-#[derive(Drop)]
+#[derive(Clone, Copy)]
 pub enum Listed {
     UnsoundState(u8),
     Ids(usize),
 }
 
 // The ids of a list stand beside the answer: an enum holds no array.
-#[derive(Drop)]
+#[derive(Clone, Copy)]
 pub struct Narrow {
     pub told: Listed,
     pub ids: [LockId; LockState::ACTIVE],
 }
 
 // What a lock needs to keep its control units in a session: the original's TesterPresentType.
-#[derive(Drop)]
+#[derive(Clone, Copy)]
 pub enum TesterPresent {
     Ecu(u8),
     Functional(u8),
 }
 
-#[derive(Drop)]
+#[derive(Clone, Copy)]
 pub enum Needed {
     UnsoundState(u8),
     Nothing,
@@ -65,7 +67,7 @@ pub enum Needed {
 }
 
 // Who holds what replaced a defunct lock, and how many defunct entries the walk passed after the given record.
-#[derive(Drop)]
+#[derive(Clone, Copy)]
 pub enum Holder {
     UnsoundState(u8),
     Held { subject: u16, links: u64 },

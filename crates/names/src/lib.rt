@@ -1,5 +1,7 @@
 // Name tables in lent buffers: a name's number, and a number's name.
 // SPDX-License-Identifier: Apache-2.0
+#![tactic(auto)]
+
 mod twice;
 
 ghost use Rattle.std.specs.Prelude.{◌≡◌, true, ◌∷◌, ◌+◌, ◌≤◌, ◌<◌, length};
@@ -22,7 +24,7 @@ const FIRST: usize = 2;
 pub const SIZE: usize = FIRST + MOST * ENTRY;
 
 // How many names a table has.
-#[derive(Drop)]
+#[derive(Clone, Copy)]
 pub enum Counted {
     // 27
     BadTable,
@@ -30,7 +32,7 @@ pub enum Counted {
 }
 
 // What a call for a name's number answers.
-#[derive(Drop)]
+#[derive(Clone, Copy)]
 pub enum Named {
     // 27
     BadTable,
@@ -45,7 +47,7 @@ pub enum Named {
 }
 
 // Where a number's name stands in the buffer.
-#[derive(Drop)]
+#[derive(Clone, Copy)]
 pub enum NameAt {
     // 27
     BadTable,

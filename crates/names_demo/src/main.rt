@@ -1,5 +1,7 @@
 // Fills a name table with 256 names, asks for each again in another case of its letters, and asks a full table for more.
 // SPDX-License-Identifier: Apache-2.0
+#![tactic(auto)]
+
 use libc::STDOUT_FILENO;
 use names::Named;
 

@@ -9,7 +9,7 @@ use state::{ActiveLock, LockState};
 
 // insert_active, insert_vehicle, commit_replacement. The Invariant's four reasons have names of their own
 // (11.1 NotRootVehicle, 11.2 BadChild, 11.3 OtherOwner, 11.4 NotCovered); Invariant is the closing check's.
-#[derive(Drop)]
+#[derive(Clone, Copy)]
 pub enum Answer {
     Done,
     DuplicateId(LockId),
@@ -30,7 +30,7 @@ pub enum Answer {
     BadList,
 }
 
-#[derive(Drop)]
+#[derive(Clone, Copy)]
 pub enum Renewal {
     Done,
     ActiveLockNotFound(LockId),
@@ -40,7 +40,7 @@ pub enum Renewal {
     UnsoundState(u8),
 }
 
-#[derive(Drop)]
+#[derive(Clone, Copy)]
 pub enum Deletion {
     Done,
     ActiveLockNotFound(LockId),
@@ -48,7 +48,7 @@ pub enum Deletion {
     UnsoundState(u8),
 }
 
-#[derive(Drop)]
+#[derive(Clone, Copy)]
 pub enum Expiration {
     Done,
     Stale,
@@ -58,7 +58,7 @@ pub enum Expiration {
 }
 
 // Done is the original's true, Absent its false.
-#[derive(Drop)]
+#[derive(Clone, Copy)]
 pub enum Acknowledgement {
     Done,
     Absent,
@@ -66,80 +66,80 @@ pub enum Acknowledgement {
     UnsoundState(u8),
 }
 
-#[derive(Drop)]
+#[derive(Clone, Copy)]
 pub enum DefunctExpiry {
     Done,
     RevisionOverflow,
     UnsoundState(u8),
 }
 
-#[derive(Drop)]
+#[derive(Clone, Copy)]
 pub struct Inserted {
     pub told: Answer,
     pub state: LockState,
 }
 
 // The removed locks as they were at entry, in the order of their going; blanks after the first gone.
-#[derive(Drop)]
+#[derive(Clone, Copy)]
 pub struct Replacement {
     pub answer: Answer,
     pub gone: usize,
     pub removed: [ActiveLock; LockState::ACTIVE],
 }
 
-#[derive(Drop)]
+#[derive(Clone, Copy)]
 pub struct Replaced {
     pub told: Replacement,
     pub state: LockState,
 }
 
-#[derive(Drop)]
+#[derive(Clone, Copy)]
 pub struct Renewed {
     pub told: Renewal,
     pub state: LockState,
 }
 
-#[derive(Drop)]
+#[derive(Clone, Copy)]
 pub struct Removal {
     pub answer: Deletion,
     pub gone: usize,
     pub removed: [ActiveLock; LockState::ACTIVE],
 }
 
-#[derive(Drop)]
+#[derive(Clone, Copy)]
 pub struct Deleted {
     pub told: Removal,
     pub state: LockState,
 }
 
-#[derive(Drop)]
+#[derive(Clone, Copy)]
 pub struct Lapse {
     pub answer: Expiration,
     pub gone: usize,
     pub removed: [ActiveLock; LockState::ACTIVE],
 }
 
-#[derive(Drop)]
+#[derive(Clone, Copy)]
 pub struct Expired {
     pub told: Lapse,
     pub state: LockState,
 }
 
-#[derive(Drop)]
+#[derive(Clone, Copy)]
 pub struct Acknowledged {
     pub told: Acknowledgement,
     pub state: LockState,
 }
 
 // The ids of the entries that went, ascending; blanks after the first gone.
-#[derive(Drop)]
+#[derive(Clone, Copy)]
 pub struct Shed {
     pub answer: DefunctExpiry,
     pub gone: usize,
     pub ids: [LockId; LockState::DEFUNCT],
 }
 
-#[derive(Drop)]
+#[derive(Clone, Copy)]
 pub struct DefunctsExpired {
     pub told: Shed,
     pub state: LockState,

@@ -144,7 +144,7 @@ fn conflict_with(new: ActiveLock, a: ActiveLock) -> Answer
 // ---- one walk over the active locks, and what it sees of a new one
 // Whether its id is there and its scope is held; the places of its parent and of the first lock that it conflicts with, the
 // count where there is none.
-#[derive(Drop)]
+#[derive(Clone, Copy)]
 pub(crate) struct Seen {
     pub same: bool,
     pub held: bool,

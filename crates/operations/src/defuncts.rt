@@ -15,7 +15,7 @@ use state::{ActiveLock, DefunctLock, LockState};
 pub(crate) const PLACES: usize = LockState::ACTIVE + LockState::DEFUNCT;
 
 // The entries in the first places, ascending by id; blanks after them. What the laws of an array with that room are about.
-#[derive(Drop)]
+#[derive(Clone, Copy)]
 pub(crate) struct Table {
     pub count: usize,
     pub entries: [DefunctLock; PLACES],

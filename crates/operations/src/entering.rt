@@ -13,7 +13,7 @@ use crate::defuncts::PLACES;
 use state::{ActiveLock, DefunctLock, LockState};
 
 // How many entries there are then, and the entries where they fit.
-#[derive(Drop)]
+#[derive(Clone, Copy)]
 pub(crate) struct Ledger {
     pub count: usize,
     pub list: [DefunctLock; LockState::DEFUNCT],

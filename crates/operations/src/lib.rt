@@ -1,5 +1,7 @@
 // The eight operations of the lock state, each a value in and a value out.
 // SPDX-License-Identifier: Apache-2.0
+#![tactic(auto)]
+
 pub mod acknowledge;
 pub mod answers;
 mod checks;

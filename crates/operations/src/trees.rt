@@ -8,7 +8,7 @@ ghost use Rattle.operations.specs.Code.{Placed, split_of, parts_in, Sorting, sta
 use state::{ActiveLock, LockState};
 
 // The active locks: those that stay, and those that went, in the order of their going.
-#[derive(Drop)]
+#[derive(Clone, Copy)]
 pub(crate) struct Split {
     pub left: usize,
     pub kept: [ActiveLock; LockState::ACTIVE],
@@ -17,7 +17,7 @@ pub(crate) struct Split {
 }
 
 // The same as places in the list that came in, so that each lock is moved once, at the end.
-#[derive(Drop)]
+#[derive(Clone, Copy)]
 pub(crate) struct Places {
     left: usize,
     kept: [usize; LockState::ACTIVE],

@@ -1,5 +1,7 @@
 // A feed played to a spare, with a line printed for each record.
 // SPDX-License-Identifier: Apache-2.0
+#![tactic(auto)]
+
 ghost use Rattle.std.specs.Prelude.{◌≡◌, length};
 ghost use Rattle.feed.specs.Runs.{run_on};
 
@@ -14,7 +16,7 @@ const LINE: usize = 128;
 const DIGITS: usize = 20;
 
 // A line that is being put together, so that it is written at once.
-#[derive(Drop)]
+#[derive(Clone, Copy)]
 struct Line {
     bytes: [u8; LINE],
     count: usize,

@@ -1,5 +1,7 @@
 // What programs tell a person: words, numbers, ids, and the image in a named file, or why there is none.
 // SPDX-License-Identifier: Apache-2.0
+#![tactic(auto)]
+
 ghost use Rattle.std.specs.Prelude.{◌≡◌, false, eqb};
 ghost use Rattle.image.specs.Image.{reading_paper};
 ghost use Rattle.printing.specs.Files.{given_by, FromBytes};
@@ -12,7 +14,7 @@ use state::LockState;
 pub mod text;
 
 // The spare is empty where no image was accepted.
-#[derive(Drop)]
+#[derive(Clone, Copy)]
 pub struct Given {
     pub accepted: bool,
     pub spare: Spare,

@@ -17,7 +17,7 @@ const MOST_ACTIVES: u16 = LockState::ACTIVE as u16;
 const MOST_DEFUNCTS: u16 = LockState::DEFUNCT as u16;
 
 // expected: the sequence number that is due next in the feed.
-#[derive(Drop)]
+#[derive(Clone, Copy)]
 pub struct Head {
     pub revision: u64,
     pub expected: u32,
@@ -25,19 +25,19 @@ pub struct Head {
     pub defuncts: u16,
 }
 
-#[derive(Drop)]
+#[derive(Clone, Copy)]
 pub enum HeadRead {
     Good(Head),
     BadField,
 }
 
-#[derive(Drop)]
+#[derive(Clone, Copy)]
 pub enum ActiveRead {
     Good(ActiveLock),
     BadField,
 }
 
-#[derive(Drop)]
+#[derive(Clone, Copy)]
 pub enum DefunctRead {
     Good(DefunctLock),
     BadField,

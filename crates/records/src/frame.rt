@@ -7,7 +7,7 @@ use crate::kinds::{Kind, Row};
 use crate::{fields, kinds, layout};
 
 // A whole record: its body has size bytes from start on, with units repeated parts, and next is the place past it.
-#[derive(Drop)]
+#[derive(Clone, Copy)]
 pub struct Frame {
     pub kind: u16,
     pub start: usize,
@@ -17,7 +17,7 @@ pub struct Frame {
 }
 
 // A refusal holds the place where the record starts.
-#[derive(Drop)]
+#[derive(Clone, Copy)]
 pub enum Framed {
     Torn(usize),
     BadKind(usize),

@@ -38,7 +38,7 @@ pub const AT_DEFUNCT: u8 = 3;
 pub const IN_FEED: u8 = 4;
 
 // A record of this kind has the length base, and unit more for each of up to UNITS units.
-#[derive(Drop)]
+#[derive(Clone, Copy)]
 pub struct Kind {
     pub kind: u16,
     pub base: u16,
@@ -48,7 +48,7 @@ pub struct Kind {
 
 pub const UNITS: u16 = 64;
 
-#[derive(Drop)]
+#[derive(Clone, Copy)]
 pub enum Row {
     Known(Kind),
     Unknown,

@@ -1,5 +1,7 @@
 // Records: numbers in bytes, the table of kinds, framing, the bodies of images and feeds.
 // SPDX-License-Identifier: Apache-2.0
+#![tactic(auto)]
+
 pub mod bodies;
 pub mod fields;
 pub mod frame;

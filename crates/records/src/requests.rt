@@ -10,7 +10,7 @@ use ids::LockId;
 use state::ActiveLock;
 
 // given: whether there is new metadata.
-#[derive(Drop)]
+#[derive(Clone, Copy)]
 pub struct RenewRequest {
     pub id: LockId,
     pub expires: u64,
@@ -19,20 +19,20 @@ pub struct RenewRequest {
     pub given: bool,
 }
 
-#[derive(Drop)]
+#[derive(Clone, Copy)]
 pub struct ExpirationRequest {
     pub id: LockId,
     pub now: u64,
 }
 
-#[derive(Drop)]
+#[derive(Clone, Copy)]
 pub struct ReplaceRequest {
     pub lock: ActiveLock,
     pub broken: u64,
     pub breaker: u32,
 }
 
-#[derive(Drop)]
+#[derive(Clone, Copy)]
 pub enum Request {
     Insert(ActiveLock),
     InsertVehicle(ActiveLock),
@@ -45,7 +45,7 @@ pub enum Request {
 }
 
 // A request with its sequence number.
-#[derive(Drop)]
+#[derive(Clone, Copy)]
 pub enum Asked {
     Good(u32, Request),
     BadField,

@@ -17,7 +17,7 @@ use state::ActiveLock;
 const MOST_IDS: usize = kinds::UNITS as usize;
 
 // Done: so many bytes.
-#[derive(Drop)]
+#[derive(Clone, Copy)]
 pub enum Sent {
     Done(usize),
     BadList,

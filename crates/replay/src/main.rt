@@ -1,5 +1,7 @@
 // replay: reads a feed from standard input, plays it to an empty spare, and prints a line for each record.
 // SPDX-License-Identifier: Apache-2.0
+#![tactic(auto)]
+
 use image::Spare;
 use libc::{STDIN_FILENO, STDOUT_FILENO};
 use state::LockState;

@@ -2,6 +2,8 @@
 // number, the revision, how many active and defunct locks are left, and what the row speaks of (an id, an ECU, a time, the
 // removed).
 // SPDX-License-Identifier: Apache-2.0
+#![tactic(auto)]
+
 use coverage::{LockCoverage, Spot};
 use ids::LockId;
 use libc::STDOUT_FILENO;

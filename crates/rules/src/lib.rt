@@ -1,5 +1,7 @@
 // The sound-state test: rules 0 to 9, and the lowest that is broken (12).
 // SPDX-License-Identifier: Apache-2.0
+#![tactic(auto)]
+
 mod actives;
 mod covers;
 mod parents;
@@ -14,7 +16,7 @@ ghost use Rattle.rules.specs.Rules.{broken_rule};
 use shapes::Dirt;
 use state::LockState;
 
-#[derive(Drop)]
+#[derive(Clone, Copy)]
 pub enum Verdict {
     Sound,
     Broken(u8),

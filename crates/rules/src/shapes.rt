@@ -12,7 +12,7 @@ use state::{ActiveLock, DefunctLock, Lock, ScopeKey};
 
 // What unused places hold, ORed: nothing as long as each is blank. So no place costs a branch, and one test at the end
 // reads them all. Words go to two sides in turn: the compiler then loads two at once and keeps both sides in one register.
-#[derive(Drop)]
+#[derive(Clone, Copy)]
 pub(crate) struct Dirt {
     even: u64,
     odd: u64,

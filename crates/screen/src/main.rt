@@ -1,6 +1,8 @@
 // screen [IMAGE]: prints for each covered ECU how many locks cover it and the lowest id among them, or why the image is
 // refused. Without a name it reads standard input, and so it does for the name -.
 // SPDX-License-Identifier: Apache-2.0
+#![tactic(auto)]
+
 ghost use Rattle.std.specs.Prelude.{◌≡◌, length};
 ghost use Rattle.rules.specs.declared.Verdict.TheVariants.{Sound};
 ghost use Rattle.rules.specs.Rules.{broken_rule};

@@ -1,6 +1,8 @@
 // spare BASE FEED NEW: reads a base image (- for an empty spare), plays the feed to it, prints a line for each record, and
 // writes the image after the last whole record to NEW. A refused base or a feed over 65,536 bytes writes nothing.
 // SPDX-License-Identifier: Apache-2.0
+#![tactic(auto)]
+
 use image::{Imaged, Reading, Spare, Writing, read, write};
 use libc::STDOUT_FILENO;
 use state::LockState;

@@ -1,5 +1,7 @@
 // The lock state: scopes, locks, the two lists in their places.
 // SPDX-License-Identifier: Apache-2.0
+#![tactic(auto)]
+
 ghost use Rattle.std.specs.Prelude.{◌≡◌};
 ghost use Rattle.state.specs.Locks.{is_vehicle, is_group, ecu_in, scope_code, same_scope, blank_lock, blank_active, blank_defunct, normal_coverage, normal, has_id, has_id_d};
 ghost use Rattle.state.specs.Model.{empty_model, state_of};
@@ -8,7 +10,7 @@ use coverage::LockCoverage;
 use ids::LockId;
 
 // Vehicle is first, so a blank is the all-zero value.
-#[derive(Drop)]
+#[derive(Clone, Copy)]
 pub enum ScopeKey {
     Vehicle,
     Ecu(u8),
@@ -18,7 +20,7 @@ pub enum ScopeKey {
 // What an active and a defunct lock share: document 01's "lock start". A field has the original's name unless it says
 // another; a name of one word stays one in the definitions, which would have to quote `broken_at`.
 // Large fields first: the compiler keeps the declared order.
-#[derive(Drop)]
+#[derive(Clone, Copy)]
 pub struct Lock {
     pub id: LockId,
     pub coverage: LockCoverage,
@@ -32,7 +34,7 @@ pub struct Lock {
 }
 
 // The original's fields of the lock itself stand in `lock`.
-#[derive(Drop)]
+#[derive(Clone, Copy)]
 pub struct ActiveLock {
     pub lock: Lock,
     // parent_vehicle_lock_id, where child says that there is one; else zero
@@ -42,7 +44,7 @@ pub struct ActiveLock {
     pub child: bool,
 }
 
-#[derive(Drop)]
+#[derive(Clone, Copy)]
 pub struct DefunctLock {
     pub lock: Lock,
     // replacement_lock_id
@@ -59,7 +61,7 @@ pub struct DefunctLock {
 
 // Each list stands in the first places of its array, ascending by id; unused places are blank. The original's two other
 // maps, active_by_scope and children_by_vehicle, are read off the active locks.
-#[derive(Drop)]
+#[derive(Clone, Copy)]
 pub struct LockState {
     pub revision: u64,
     // active_by_id

@@ -2,12 +2,14 @@
 // and the sum of the answers to its 255 changes. Then the sum of the answers to the cuts, and how often each answer came.
 // oracle/src/bin/sweep.rs prints the same lines from the comparison's reader.
 // SPDX-License-Identifier: Apache-2.0
+#![tactic(auto)]
+
 use image::{Imaged, Reading, Spare, Writing, read, write};
 use libc::STDOUT_FILENO;
 
 // The answers since the sum was last begun, and how often each came in all: first done, then the refusals 17 to 20, then
 // the rules 0 to 9 of the refusal 12.
-#[derive(Drop)]
+#[derive(Clone, Copy)]
 struct Tally {
     sum: u64,
     counts: [u64; 15],

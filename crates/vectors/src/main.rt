@@ -1,6 +1,8 @@
 // vectors: replays the list of cases on standard input (oracle/vectors/README.md): an image, a feed record, and what
 // applying the record at place 0 gives. Prints a line for each way in which a case differs, and how often each answer came.
 // SPDX-License-Identifier: Apache-2.0
+#![tactic(auto)]
+
 ghost use Rattle.std.specs.Prelude.{◌≤◌, length};
 
 use feed::events::Step;
@@ -12,7 +14,7 @@ use state::{ActiveLock, LockState};
 
 // ---- the list
 // The bytes from start to end. Not good: the list has no such part.
-#[derive(Drop)]
+#[derive(Clone, Copy)]
 struct Part {
     good: bool,
     start: usize,
@@ -118,7 +120,7 @@ fn bad_list(at: usize) {
 }
 
 // The place of the next case; the cases so far, those of them that differ, and how often each answer came.
-#[derive(Drop)]
+#[derive(Clone, Copy)]
 struct Tally {
     at: usize,
     cases: u64,
