@@ -75,6 +75,7 @@ no_return r s h = omega (arith, same_count r s refl)
 -- from each id met the walk goes on, no longer than from the first
 met : {t : List DefunctLock} {k : ℕ} (r : Ends t k) {j : ℕ} → Mem j (chain r) → (s : Ends t j) × (count s ≤ count r) × Mem j (map dkey t)
 unfolding count chain
+met {t = t} (done {k = k} _) {j = j} x3 = elim x3 [ ]
 met {t} (step {k = k} {d = d} e r) {j} (Memᴰ.head q) =
     let w = find→ (λ x. eqb (dkey x) k) t e in
     (step (ap (find_d t) q ∙ e) r, omega arith, Memᴰ.cast (q ∙ sym (eqb-true (dkey d) k w.1)) (Memᴰ.map dkey w.0))

@@ -26,7 +26,7 @@ unfolding chain
 meets_fresh r here q = (tt, λ i m. absurd (Memᴰ.not-nil m))
 meets_fresh {t} (done e) (on {d = d} f p) q = absurd (none-ne-some d (sym e ∙ ap (find_d t) q ∙ f))
 meets_fresh {t} {j} {k} (step {d = c} e r) (on {ks = ks} {d = d} f p) q =
-    let w = meets_fresh r p (ap (λ (x : DefunctLock). key x.target) (some-injective c d (sym e ∙ ap (find_d t) q ∙ f))) in
+    let w = meets_fresh {j = key c.target} r p (ap (λ (x : DefunctLock). key x.target) (some-injective c d (sym e ∙ ap (find_d t) q ∙ f))) in
     ((λ m. (chain_fresh (step e r)).0 (Memᴰ.cast q (w.1 k m)), w.0), met w)
   where
     met : Fresh ks × ((i : ℕ) → Mem i ks → Mem i (chain r)) → (i : ℕ) → Mem i (k ∷ ks) → Mem i (j ∷ chain r)

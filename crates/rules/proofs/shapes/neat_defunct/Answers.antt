@@ -1,0 +1,8 @@
+use mathlib.Core.Path.{◌≡◌, ◌∙◌}
+use Rattle.lists.specs.Tests.{◌and◌, ◌or◌, ◌imp◌}
+use Rattle.rules.specs.Rules.{neat_d}
+use Rattle.rules.proofs.shapes.neat_defunct.Goals as goal
+
+pub returns : goal.returns
+unfolding neat_d
+returns c = c.neat_lock.ensures
