@@ -372,14 +372,14 @@ returns-then-not-leads_out c =
     let x = else13 (goal.at.returns-then-not-leads_out c).After-leads_out in
     let o = else11 (slots (goal.at.Else-k-ne0 x).After-apart) in
     let k = lowest (loop4 o) in
-    nine_broken (s11 o) (zero o) (one-yes (goal.at.Else-k-ne0 x).Else-not-apart) k.lowest-k.result (low-is k) x.if-k-ne0.left (sym (nine-is (goal.at.returns-then-not-leads_out c).After-leads_out) ∙ c.if-not-leads_out.true)
+    nine_broken (s11 o) (zero o) (one-yes (goal.at.Else-k-ne0 x).Else-not-apart) k.lowest-k.result (low-is k) x.if-k-ne0.false (sym (nine-is (goal.at.returns-then-not-leads_out c).After-leads_out) ∙ c.if-not-leads_out.true)
 
 pub returns : goal.returns
 returns c =
     let x = else13 (goal.at.returns c).After-leads_out in
     let o = else11 (slots (goal.at.Else-k-ne0 x).After-apart) in
     let k = lowest (loop4 o) in
-    none_broken (s11 o) (zero o) (one-yes (goal.at.Else-k-ne0 x).Else-not-apart) k.lowest-k.result (low-is k) x.if-k-ne0.left (sym (nine-is (goal.at.returns c).After-leads_out) ∙ c.if-not-leads_out.false)
+    none_broken (s11 o) (zero o) (one-yes (goal.at.Else-k-ne0 x).Else-not-apart) k.lowest-k.result (low-is k) x.if-k-ne0.false (sym (nine-is (goal.at.returns c).After-leads_out) ∙ c.if-not-leads_out.false)
 
 pub slice_bounds-rising-end : goal.slice_bounds-rising-end
 slice_bounds-rising-end c = sym c.loop-i.invariant.1.list_long
