@@ -63,12 +63,12 @@ passed : {t : List DefunctLock} {k : ℕ} → Ends t k → ℕ
 passed (done e) = 0
 passed (step e r) = suc (passed r)
 
-passed_le : (n : ℕ) {t : List DefunctLock} {k : ℕ} (r : Ends t k) → Yes (leaves n t k) → passed r ≤ n
+passed_le : {t : List DefunctLock} (n : ℕ) {k : ℕ} (r : Ends t k) → Yes (leaves n t k) → passed r ≤ n
 unfolding passed leaves
 passed_le n (done e) h = zero-le
-passed_le zero {t} {k} (step {d = d} e r) h =
+passed_le {t} zero {k} (step {d = d} e r) h =
     let w = find→ (λ x. eqb (dkey x) k) t e in absurd (against (non_yes _ h) (→any (λ x. eqb (dkey x) k) w.0 w.1))
-passed_le (suc n) {t} {k} (step e r) h = suc-le-suc (passed_le n r (rw (e, leaves) at h))
+passed_le {t} (suc n) {k} (step e r) h = suc-le-suc (passed_le n r (rw (e, leaves) at h))
 
 counted_all : (n : ℕ) {t : List DefunctLock} {k : ℕ} (r : Ends t k) → passed r ≤ n → counted n t k ≡ passed r
 unfolding passed counted
@@ -113,7 +113,7 @@ links_le m {k} (done e) (suc n) h c = go (find_a m.active k) refl
     go : (o : Option ActiveLock) → find_a m.active k ≡ o → (walk (suc n) m k h c).links ≤ c + ahead m.defunct k
     go none f = rw (walk_out m n k h c f e) (omega arith)
     go (some a) f = rw (walk_held m n k h c a f) (omega arith)
-links_le m {k} (step {d = d} e r) (suc n) h c = go (find_a m.active k) refl (links_le m r n d.holder (suc c))
+links_le m {k} (step {d = d} e r) (suc n) h c = go (find_a m.active k) refl (links_le m {k = key d.target} r n d.holder (suc c))
   where
     go : (o : Option ActiveLock) → find_a m.active k ≡ o → (walk n m (key d.target) d.holder (suc c)).links ≤ suc c + ahead m.defunct (key d.target) → (walk (suc n) m k h c).links ≤ c + ahead m.defunct k
     go none f u = rw (walk_on m n k h c d f e) (omega (arith, ahead_on m.defunct k (step e r) d e))

@@ -1,0 +1,34 @@
+use mathlib.Core.Path.{refl, ◌∙◌}
+use Prim.Native.Nat.{◌≤◌, ◌<◌, ◌-◌}
+use native.Mathlib.Omega.{arith}
+use lib.ListN.{length, get_or, length-set}
+use Rattle.lists.proofs.Places.{fill_more}
+use Rattle.state.specs.Locks.{blank_defunct}
+use Rattle.lookups.specs.Code.{defunct_id}
+use Rattle.lookups.proofs.chain.defunct_ids.Goals as goal
+
+pub loop-i-init : goal.loop-i-init
+loop-i-init c = (omega arith, record { long = refl; wide = refl; his = λ j h. absurd (omega arith); los = λ j h. absurd (omega arith) })
+
+pub loop-i-preserved : goal.loop-i-preserved
+unfolding blank_defunct
+loop-i-preserved c =
+    let l = c.args.defunct in
+    let i = c.loop-i.i in
+    let v = c.loop-i.invariant.1 in
+    let x = defunct_id (get_or l i blank_defunct) in
+    let in-hi : i < length c.loop-i.hi = omega arith in
+    let in-lo : i < length c.loop-i.lo = omega arith in (
+      omega arith,
+      record {
+        long = length-set c.loop-i.hi i x.hi ∙ v.long;
+        wide = length-set c.loop-i.lo i x.lo ∙ v.wide;
+        his = fill_more (λ j. (defunct_id (get_or l j blank_defunct)).hi) c.loop-i.hi i x.hi 0 in-hi refl v.his;
+        los = fill_more (λ j. (defunct_id (get_or l j blank_defunct)).lo) c.loop-i.lo i x.lo 0 in-lo refl v.los;
+      },
+    )
+
+pub returns : goal.returns
+returns c =
+    let v = c.loop-i.invariant.1 in
+    record { long = v.long; wide = v.wide; his = λ j h. v.his j (omega arith); los = λ j h. v.los j (omega arith) }

@@ -1,0 +1,24 @@
+use mathlib.Core.Path.{◌≡◌, refl, sym, ap, ◌∙◌}
+use Prim.Native.Nat.{◌≤◌, ◌-◌}
+use native.Mathlib.Omega.{arith}
+use borrow.Author.Rules.{rules}
+use lib.ListN.{length}
+use Rattle.lists.proofs.Loops.{find_yes, find_no, find_end, length_of_mapped}
+use Rattle.lookups.specs.Reads.{told_a, on_scope}
+use Rattle.lookups.proofs.search.find_scope.Goals as goal
+use Rattle.lookups.proofs.search.find_scope.Goals.{Start}
+
+long : (c : Start) → c.args.n ≤ length c.args.active
+long c = let e : length c.args.active ≡ 64 = search (rules, length_of_mapped) in omega arith
+
+pub loop-i-init : goal.loop-i-init
+loop-i-init c = (omega arith, refl)
+
+pub returns-then-on_scope : goal.returns-then-on_scope
+returns-then-on_scope c = ap told_a (sym (find_yes _ _ _ _ _ c.loop-i-test.true (long (goal.at.returns-then-on_scope c).Start) (sym c.on_scope.ensures ∙ c.if-on_scope.true)) ∙ c.loop-i.invariant.1)
+
+pub loop-i-preserved : goal.loop-i-preserved
+loop-i-preserved c = (omega arith, sym (find_no _ _ _ _ _ c.loop-i-test.true (long (goal.at.loop-i-preserved c).Start) (sym c.on_scope.ensures ∙ c.if-on_scope.false)) ∙ c.loop-i.invariant.1)
+
+pub returns : goal.returns
+returns c = ap told_a (sym (find_end _ _ _ _ c.loop-i.invariant.0 c.loop-i-test.false) ∙ c.loop-i.invariant.1)
