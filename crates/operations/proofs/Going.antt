@@ -143,7 +143,7 @@ up_below (suc n) j m = elim (Memᴰ.append_cases (up_to n) m) as (λ w. j < suc 
 rises_more : (b x : ℕ) (ks : List ℕ) → Yes (from (λ j. j) b ks) → b ≤ x → ((j : ℕ) → Mem j ks → j < x) → Yes (from (λ j. j) b (ks ++ (x ∷ [])))
 rises_more b x [] t h g = and_i (leb b x) true (le-leb b x h) refl
 rises_more b x (k ∷ ks) t h g =
-    and_i (leb b k) (from (λ j. j) (suc k) (ks ++ (x ∷ []))) (le-leb b k (from→ (λ j. j) b {l = k ∷ ks} {a = k} t (Memᴰ.head refl)))
+    and_i (leb b k) (from (λ j. j) (suc k) (ks ++ (x ∷ []))) (le-leb b k (from→ (λ j. j) {a = k} b {l = k ∷ ks} t (Memᴰ.head refl)))
     (rises_more (suc k) x ks (rest (λ j. j) b k ks t) (g k (Memᴰ.head refl)) (λ j m. g j (Memᴰ.tail m)))
 
 up_rises : (n : ℕ) → Yes (ascending (λ j. j) (up_to n))

@@ -1,0 +1,22 @@
+use Rattle.operations.specs.Answers.{deletion_paper}
+use borrow.Author.Rules.{rules}
+use Rattle.operations.proofs.numbers.of_deletion.Goals as goal
+
+pub enum_told-1 : goal.enum_told-1
+enum_told-1 c = search rules
+
+pub returns-in-Done : goal.returns-in-Done
+unfolding deletion_paper
+returns-in-Done c = rw c.in-Done.is
+
+pub returns-in-ActiveLockNotFound : goal.returns-in-ActiveLockNotFound
+unfolding deletion_paper
+returns-in-ActiveLockNotFound c = rw c.in-ActiveLockNotFound.is
+
+pub returns-in-RevisionOverflow : goal.returns-in-RevisionOverflow
+unfolding deletion_paper
+returns-in-RevisionOverflow c = rw c.in-RevisionOverflow.is
+
+pub returns-in-UnsoundState : goal.returns-in-UnsoundState
+unfolding deletion_paper
+returns-in-UnsoundState c = rw c.in-UnsoundState.is

@@ -1,0 +1,27 @@
+use mathlib.Core.Path.{◌≡◌, refl, sym, ◌∙◌}
+use Prim.Native.Nat.{◌≤◌, ◌-◌}
+use native.Mathlib.Omega.{arith}
+use borrow.Author.Rules.{rules}
+use lib.ListN.{length}
+use Rattle.lists.proofs.First.{place_yes, place_no, place_end}
+use Rattle.lists.proofs.Loops.{length_of_mapped}
+use Rattle.state.specs.Locks.{has_id}
+use Rattle.operations.proofs.renew.place_of.Goals as goal
+use Rattle.operations.proofs.renew.place_of.Goals.{Start}
+
+long : (c : Start) → c.args.n ≤ length c.args.locks
+long c = let e : length c.args.locks ≡ 64 = search (rules, length_of_mapped) in omega arith
+
+pub loop-i-init : goal.loop-i-init
+loop-i-init c = (omega arith, refl)
+
+pub returns-then-has_id : goal.returns-then-has_id
+returns-then-has_id c =
+    sym (place_yes _ _ _ _ _ c.loop-i-test.true (long (goal.at.returns-then-has_id c).Start) (sym c.has_id.ensures ∙ c.if-has_id.true)) ∙ c.loop-i.invariant.1
+
+pub loop-i-preserved : goal.loop-i-preserved
+loop-i-preserved c =
+    (omega arith, sym (place_no _ _ _ _ _ c.loop-i-test.true (long (goal.at.loop-i-preserved c).Start) (sym c.has_id.ensures ∙ c.if-has_id.false)) ∙ c.loop-i.invariant.1)
+
+pub returns : goal.returns
+returns c = sym (place_end _ _ _ _ c.loop-i.invariant.0 c.loop-i-test.false) ∙ c.loop-i.invariant.1
