@@ -37,6 +37,8 @@ fit_each f [] h = tt
 fit_each f (w ∷ ws) h = (h w (Memᴰ.head refl), fit_each f ws (λ x m. h x (Memᴰ.tail m)))
 
 each_fit : (f : Field) (n : ℕ) (ws : List ℕ) → Fit (replicate n f) ws → (w : ℕ) → Mem w ws → w < 256 ^ size f
+each_fit f (suc n) [] k w m = elim k [ ]
+each_fit f zero [] k w m = elim m [ ]
 each_fit f zero (x ∷ ws) k w m = absurd k
 each_fit f (suc n) (x ∷ ws) k w (Memᴰ.head e) = subst (λ (y : ℕ). y < 256 ^ size f) (sym e) k.0
 each_fit f (suc n) (x ∷ ws) k w (Memᴰ.tail m) = each_fit f n ws k.1 w m

@@ -1,0 +1,9 @@
+use Rattle.records.proofs.Numbers.{little_add}
+use native.Mathlib.Omega.{arith}
+use borrow.Author.Rules.{rules}
+use Rattle.records.proofs.fields.u16_at.Goals as goal
+
+pub returns : goal.returns
+returns c =
+    let a = c.args in
+    omega (arith, c.u8_at.ensures, c.u8_at-2.ensures, little_add 1 1 a.s.now a.at (search rules))

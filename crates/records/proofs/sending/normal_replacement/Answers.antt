@@ -1,0 +1,4 @@
+use Rattle.records.proofs.sending.normal_replacement.Goals as goal
+
+pub returns : goal.returns
+returns c = rw c.normal_form.ensures

@@ -1,0 +1,10 @@
+use Rattle.records.specs.Wire.{defunct}
+use Rattle.records.proofs.Wire.{defunct_lawful}
+use Rattle.records.proofs.Storing.{body_stored}
+use Rattle.records.proofs.writing.put_defunct_body.Goals as goal
+
+pub returns : goal.returns
+returns c =
+    let a = c.args in
+    rw (c.put_u16.ensures, c.put_big64-2.ensures, c.put_big64.ensures, c.put_u32.ensures, c.put_u64-2.ensures, c.put_u64.ensures, c.put_lock.ensures)
+    (body_stored defunct defunct_lawful a.d a.out.now c.requires)
