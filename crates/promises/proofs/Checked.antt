@@ -81,6 +81,7 @@ root_ok x e = let h = or_no _ _ (went_on _ _ _ refl e).0 in (non_no _ h.0, h.1)
 
 -- ---- where nothing of a list is refused, each passes
 all_passed : {A : Type 0} (c : A → Answer) (l : List A) → Yes (is_done (first_refusal c l)) → {a : A} → Mem a l → Yes (is_done (c a))
+all_passed {A = A} c [] e {a = a} x'' = elim x'' [ ]
 all_passed c (x ∷ l) e (Memᴰ.head q) = rw q (then_done _ _ e).0
 all_passed c (x ∷ l) e (Memᴰ.tail m) = all_passed c l (then_done _ _ e).1 m
 
@@ -105,6 +106,7 @@ put_new i (j ∷ js) =
     cond_both (Kin i) (j ∷ js) (j ∷ insert_id i js) (eqb (key i) (key j)) (λ s. (j, Memᴰ.head refl, sym (eqb-true (key i) (key j) s))) (λ s. let w = put_new i js in (w.0, Memᴰ.tail w.1, w.2)))
 
 put_old : (i : LockId) {z : LockId} (js : List LockId) → Mem z js → Mem z (insert_id i js)
+put_old i {z = z} [] x' = elim x' [ ]
 put_old i {z} (j ∷ js) (Memᴰ.head q) =
     cond_both (Mem z) (i ∷ (j ∷ js)) _ (before_id i j) (λ t. Memᴰ.tail (Memᴰ.head q)) (λ t. cond_both (Mem z) (j ∷ js) (j ∷ insert_id i js) (same_id i j) (λ s. Memᴰ.head q) (λ s. Memᴰ.head q))
 put_old i {z} (j ∷ js) (Memᴰ.tail m) =
@@ -115,6 +117,7 @@ all_old [] js m = m
 all_old (i ∷ is) js m = all_old is (insert_id i js) (put_old i js m)
 
 all_new : {i : LockId} (is js : List LockId) → Mem i is → Kin i (insert_ids is js)
+all_new {i = i} [] js x' = elim x' [ ]
 all_new (x ∷ is) js (Memᴰ.head q) = let w = put_new x js in (w.0, all_old is (insert_id x js) w.1, w.2 ∙ ap key (sym q))
 all_new (x ∷ is) js (Memᴰ.tail m) = all_new is (insert_id x js) m
 
