@@ -6,6 +6,7 @@ use borrow.Author.Tests.{not-true, not-false}
 use Rattle.image.specs.Code.{placed}
 use Rattle.image.proofs.Passing.{begins_first, first_room, first_reads, first_stops, begins_second, second_room, second_reads, second_stops, ends_well, ends_ill}
 use Rattle.image.proofs.read.records_by.Goals as goal
+use Rattle.image.proofs.read.records_by.Goals.{then-not-is_done, else-not-is_done}
 
 pub loop-i-init : goal.loop-i-init
 loop-i-init c = begins_first _ _ _ c.begin-begun.ensures _ _ c.blank_active-active.ensures
@@ -56,7 +57,7 @@ pub loop-i-2-preserved : goal.loop-i-2-preserved
 loop-i-2-preserved c = second_stops _ _ _ _ _ _ _ _ _ _ _ c.loop-i-2-test.true _ c.defunct_after.ensures c.loop-i-2.invariant _ c.in-Refused-defunct_after.is
 
 pub returns : goal.returns
-returns c = c.held.ensures ∙ ⊎_elim
-    (λ w. (λ i. placed c.at_end-told.result (w.3 i) (w.4 i) (w.5 i)) ∙ ends_ill _ _ _ _ _ _ _ _ _ _ _ c.loop-i-2-test.false _ c.at_end-told.ensures c.loop-i-2.invariant (sym c.is_done.ensures ∙ not-true _ w.0.taken) _ _ w.1.ensures w.2.ensures)
-    (λ w. (λ i. placed c.at_end-told.result (w.1 i) (w.2 i) (w.3 i)) ∙ ends_well _ _ _ _ _ _ _ _ _ _ _ c.loop-i-2-test.false _ c.at_end-told.ensures c.loop-i-2.invariant (sym c.is_done.ensures ∙ not-false _ w.0.left))
-    c.if-not-is_done.branch
+returns c = c.held.ensures ∙ elim c.if-not-is_done.branch [
+      | then-not-is_done w ↦ (λ i. placed c.at_end-told.result (w.head-is i) (w.active-is i) (w.defunct-is i)) ∙ ends_ill _ _ _ _ _ _ _ _ _ _ _ c.loop-i-2-test.false _ c.at_end-told.ensures c.loop-i-2.invariant (sym c.is_done.ensures ∙ w.if-not-is_done.true) _ _ w.blank_active-active-then-not-is_done.ensures w.blank_defunct-defunct-then-not-is_done.ensures
+      | else-not-is_done w ↦ (λ i. placed c.at_end-told.result (w.head-is i) (w.active-is i) (w.defunct-is i)) ∙ ends_well _ _ _ _ _ _ _ _ _ _ _ c.loop-i-2-test.false _ c.at_end-told.ensures c.loop-i-2.invariant (sym c.is_done.ensures ∙ w.if-not-is_done.false)
+    ]

@@ -11,15 +11,15 @@ use Rattle.image.proofs.Writes.{length_one, active_plain}
 use Rattle.image.proofs.write.put_actives.Goals as goal
 
 pub loop-i-init : goal.loop-i-init
-loop-i-init c = let a = c.args in starts (bytes_of_one active_list) 91 (length_one active_list active_plain) a.out.now a.from a.n a.t3 (omega (arith, c.requires.1))
+loop-i-init c = let a = c.args in starts (bytes_of_one active_list) 91 (length_one active_list active_plain) a.out.now a.from a.n a.locks (omega (arith, c.requires.1))
 
 pub loop-i-preserved : goal.loop-i-preserved
 unfolding blank_active
 loop-i-preserved c = let a = c.args in let l = c.loop-i in
-    let e : length a.t3 ≡ 64 = search (rules, length_of_mapped) in
-    turns (bytes_of_one active_list) 91 (length_one active_list active_plain) a.out.now a.from a.n a.t3 (omega (arith, c.requires.0)) c.requires.1 blank_active l.out c.put_active.new.out l.i c.loop-i-test.true l.invariant c.put_active.ensures
+    let e : length a.locks ≡ 64 = search (rules, length_of_mapped) in
+    turns (bytes_of_one active_list) 91 (length_one active_list active_plain) a.out.now a.from a.n a.locks (omega (arith, c.requires.0)) c.requires.1 blank_active l.out c.put_active.new.out l.i c.loop-i-test.true l.invariant c.put_active.ensures
 
 pub returns : goal.returns
 returns c = let a = c.args in let l = c.loop-i in
-    let e : length a.t3 ≡ 64 = search (rules, length_of_mapped) in
-    ends (bytes_of_one active_list) 91 (length_one active_list active_plain) a.out.now a.from a.n a.t3 (omega (arith, c.requires.0)) c.requires.1 l.out l.i c.loop-i-test.false l.invariant
+    let e : length a.locks ≡ 64 = search (rules, length_of_mapped) in
+    ends (bytes_of_one active_list) 91 (length_one active_list active_plain) a.out.now a.from a.n a.locks (omega (arith, c.requires.0)) c.requires.1 l.out l.i c.loop-i-test.false l.invariant
