@@ -5,10 +5,8 @@ use Rattle.feed.specs.declared.events.Event.{Event}
 use Rattle.feed.specs.declared.events.Event.TheVariants as E
 use Rattle.feed.specs.Feed.{is_applied}
 use Rattle.feed.specs.contracts.events.Event as Declared
-use Rattle.feed.proofs.events.is_applied.Statement.{statement}
-use Rattle.feed.proofs.events.is_applied.Tie as tie
-use Rattle.feed.proofs.events.is_applied.Reads as reads
-use Rattle.feed.proofs.events.is_applied.Lts as lts
+use borrow.Enum.Refused.{opened}
+use Rattle.feed.proofs.events.is_applied.Goals as goal
 
 -- every variant but the last
 abbrev others : List ℕ
@@ -24,15 +22,9 @@ not_applied (E.Repeat n) h = refl
 not_applied (E.Ahead n) h = refl
 not_applied (E.Applied o) h = absurd (miss others 6 tt h)
 
-enum_told : tie.Need-enum-told
-enum_told c = search rules
-
-returns : tie.Need-returns
+pub returns-in-Applied : goal.returns-in-Applied
 unfolding is_applied
-returns c = search rules
+returns-in-Applied c = search rules
 
-returns-2 : tie.Need-returns-2
-returns-2 c = not_applied c.before.args.event c.match.keys2
-
-pub is-applied-spec : {M : Type 1} → statement M
-is-applied-spec = tie.close (tie.spec enum_told returns returns-2)
+pub returns-in_default : goal.returns-in_default
+returns-in_default c = not_applied c.args.event (opened c.in_default.in_default-own.keys2)

@@ -5,10 +5,8 @@ use Rattle.feed.specs.declared.events.Event.{Event}
 use Rattle.feed.specs.declared.events.Event.TheVariants as E
 use Rattle.feed.specs.Feed.{is_unsound}
 use Rattle.feed.specs.contracts.events.Event as Declared
-use Rattle.feed.proofs.events.is_unsound.Statement.{statement}
-use Rattle.feed.proofs.events.is_unsound.Tie as tie
-use Rattle.feed.proofs.events.is_unsound.Reads as reads
-use Rattle.feed.proofs.events.is_unsound.Lts as lts
+use borrow.Enum.Refused.{opened}
+use Rattle.feed.proofs.events.is_unsound.Goals as goal
 
 -- every variant but the first
 abbrev others : List ℕ
@@ -24,15 +22,9 @@ not-unsound (E.Repeat n) h = refl
 not-unsound (E.Ahead n) h = refl
 not-unsound (E.Applied o) h = refl
 
-enum_told : tie.Need-enum-told
-enum_told c = search rules
-
-returns : tie.Need-returns
+pub returns-in-UnsoundState : goal.returns-in-UnsoundState
 unfolding is_unsound
-returns c = search rules
+returns-in-UnsoundState c = search rules
 
-returns-2 : tie.Need-returns-2
-returns-2 c = not-unsound c.before.args.event c.match.keys2
-
-pub is-unsound-spec : {M : Type 1} → statement M
-is-unsound-spec = tie.close (tie.spec enum_told returns returns-2)
+pub returns-in_default : goal.returns-in_default
+returns-in_default c = not-unsound c.args.event (opened c.in_default.in_default-own.keys2)
