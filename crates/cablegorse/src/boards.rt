@@ -32,8 +32,7 @@ fn of_writing(w: Writing) -> Told
 }
 
 // The image's board from the buffer's start on.
-#[unsafe(no_mangle)]
-pub extern "C" fn cablegorse_board(image: &[u8], out: &mut [u8]) -> Told
+pub fn cablegorse_board(image: &[u8], out: &mut [u8]) -> Told
     ensures { kept result out.new ≡ board_of_image image.now out.old }
 {
     let i = read::read_image(image);
@@ -78,8 +77,7 @@ fn put_followed(
 }
 
 // The record at a place of a feed, applied to the image's spare, and the board with it.
-#[unsafe(no_mangle)]
-pub extern "C" fn cablegorse_apply_board(
+pub fn cablegorse_apply_board(
     image: &[u8],
     board: &mut [u8],
     stream: &[u8],
@@ -125,8 +123,7 @@ fn board_told(image: &[u8], board: &[u8]) -> Told
 
 // A defunct entry deleted, with the image's board beside it. The image is read once more for the board: people delete
 // entries, feeds don't.
-#[unsafe(no_mangle)]
-pub extern "C" fn cablegorse_delete_defunct_board(
+pub fn cablegorse_delete_defunct_board(
     image: &[u8],
     board: &[u8],
     hi: u64,

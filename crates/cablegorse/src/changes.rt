@@ -100,8 +100,7 @@ pub(crate) fn put_step(
 }
 
 // The record at a place of a feed, applied to the image's spare.
-#[unsafe(no_mangle)]
-pub extern "C" fn cablegorse_apply(
+pub fn cablegorse_apply(
     image: &[u8],
     stream: &[u8],
     at: usize,
@@ -143,8 +142,7 @@ fn put_dropped(d: Dropped, expected: u32, next: &mut [u8]) -> Applied
 }
 
 // A defunct entry deleted, which no record of a feed asks for.
-#[unsafe(no_mangle)]
-pub extern "C" fn cablegorse_delete_defunct(
+pub fn cablegorse_delete_defunct(
     image: &[u8],
     hi: u64,
     lo: u64,

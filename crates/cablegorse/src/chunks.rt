@@ -76,8 +76,7 @@ fn put_run(run: Run, next: &mut [u8]) -> Followed
     )
 }
 
-#[unsafe(no_mangle)]
-pub extern "C" fn cablegorse_follow(image: &[u8], chunk: &[u8], next: &mut [u8]) -> Followed
+pub fn cablegorse_follow(image: &[u8], chunk: &[u8], next: &mut [u8]) -> Followed
     ensures { chunked result next.new ≡ follow_of image.now chunk.now next.old }
 {
     let i = read::read_image(image);

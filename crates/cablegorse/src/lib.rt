@@ -11,6 +11,7 @@ mod arguments;
 pub mod boards;
 pub mod changes;
 pub mod chunks;
+mod copying;
 mod events;
 mod papers;
 mod putting;
@@ -105,16 +106,14 @@ pub struct Operation {
 }
 
 // The response class of a refusal number: 0 none, 1 BadRequest, 2 Conflict, 3 InternalServerError, 4 Forbidden.
-#[unsafe(no_mangle)]
-pub extern "C" fn cablegorse_response_class(number: u64) -> u32
+pub fn cablegorse_response_class(number: u64) -> u32
     ensures { result ≡ class_of number }
 {
     papers::of_response(locks::response_class(number))
 }
 
 // Whether the image can be read and its state is sound; then its revision, the expected number and both counts.
-#[unsafe(no_mangle)]
-pub extern "C" fn cablegorse_test(image: &[u8]) -> Told
+pub fn cablegorse_test(image: &[u8]) -> Told
     ensures { result ≡ test_of image.now }
 {
     let i = read::read_image(image);
@@ -135,8 +134,7 @@ pub extern "C" fn cablegorse_test(image: &[u8]) -> Told
 }
 
 // The generation after a runtime update, which the image doesn't hold; or the refusal.
-#[unsafe(no_mangle)]
-pub extern "C" fn cablegorse_prepare_runtime_update(image: &[u8], generation: u64) -> Told
+pub fn cablegorse_prepare_runtime_update(image: &[u8], generation: u64) -> Told
     ensures { result ≡ prepare_of image.now generation }
 {
     let i = read::read_image(image);

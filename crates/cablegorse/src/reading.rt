@@ -54,8 +54,7 @@ fn put_reply(r: Reply, out: &mut [u8]) -> Told
     told
 }
 
-#[unsafe(no_mangle)]
-pub extern "C" fn cablegorse_read(
+pub fn cablegorse_read(
     image: &[u8],
     question: u32,
     x: u64,

@@ -6,7 +6,7 @@ ghost use Rattle.cablegorse.specs.Telling.{told_of, kept};
 ghost use Rattle.cablegorse.specs.Sending.{bad_asked, lock_right, lock_in, asked_lock, asked_renewal, asked_of, write_of, performed, perform_of};
 ghost use Rattle.cablegorse.specs.Code.{sizes_in, refused_told, own_shown, own_of, request_shown};
 
-use crate::{Applied, Operation, Told, changes, papers};
+use crate::{Applied, Operation, Told, changes, copying, papers};
 use coverage::LockCoverage;
 use feed::events::Step;
 use ids::LockId;
@@ -158,8 +158,7 @@ fn request_in(asked: Operation) -> Asked
 }
 
 // ---- the record alone
-#[unsafe(no_mangle)]
-pub extern "C" fn cablegorse_write_record(
+pub fn cablegorse_write_record(
     sequence: u32,
     asked: Operation,
     list: &[u64],
@@ -229,7 +228,7 @@ fn put_own(
         );
         return changes::still(short, 3, told.sequence, 0);
     }
-    bytes::copy(due, sent);
+    copying::copy(due, sent);
     changes::put_step(s, 0, next, removed, expired)
 }
 
@@ -275,8 +274,7 @@ fn ask(
 }
 
 // The operation on the image's own state, and the record that carries it to a spare: one isn't written without the other.
-#[unsafe(no_mangle)]
-pub extern "C" fn cablegorse_perform(
+pub fn cablegorse_perform(
     image: &[u8],
     asked: Operation,
     list: &[u64],

@@ -4,12 +4,11 @@ ghost use Rattle.std.specs.Prelude.{◌≡◌};
 ghost use Rattle.cablegorse.specs.Telling.{kept};
 ghost use Rattle.cablegorse.specs.Boundary.{name_number_of, name_at_of};
 
-use crate::{Told, papers};
+use crate::{Told, copying, papers};
 use names::NameAt;
 
 // The name's number. A new name is learned; a refusal leaves every byte of the table.
-#[unsafe(no_mangle)]
-pub extern "C" fn cablegorse_name_number(table: &mut [u8], name: &[u8], folding: bool) -> Told
+pub fn cablegorse_name_number(table: &mut [u8], name: &[u8], folding: bool) -> Told
     ensures { kept result table.new ≡ name_number_of folding table.old name.now }
 {
     let n = names::number_of(table, name, folding);
@@ -17,8 +16,7 @@ pub extern "C" fn cablegorse_name_number(table: &mut [u8], name: &[u8], folding:
 }
 
 // The name of a number, copied into the buffer.
-#[unsafe(no_mangle)]
-pub extern "C" fn cablegorse_name_at(
+pub fn cablegorse_name_at(
     table: &[u8],
     number: u16,
     folding: bool,
@@ -35,7 +33,7 @@ pub extern "C" fn cablegorse_name_at(
                 return papers::one(21, len as u64);
             }
             let end = start + len;
-            let n = bytes::copy(&table[start..end], out);
+            let n = copying::copy(&table[start..end], out);
             papers::two(0, 1, n as u64)
         }
     }
