@@ -1,8 +1,7 @@
 -- A word's bits: those of an `&`, that a word is its bits, and its lowest set bit. Over any width.
 -- Assumes nothing.
 use mathlib.Core.Path.{◌≡◌, refl, sym, subst, ap, ap₂, ◌∙◌}
-use mathlib.Core.Logic.{◌⊎◌, inl, inr, ⊎_elim}
-use mathlib.Core.Bool.{Bool, true, false, true≢false}
+use mathlib.Core.Bool.{true, false, true≢false}
 use Prim.Native.Nat.{ℕ, zero, suc, ◌+◌, ◌*◌, ◌/◌, ◌%◌, ◌^◌, ◌<◌, ◌≤◌, suc-le-suc, zero-le}
 use native.Mathlib.Nat.{div-one, zero-div, mod-lt, div-add-mod', zero-lt-suc, le_of_suc-le-suc, not-suc-le-zero, lt_of_le_of_lt, pos_of_ne-zero, pow-suc, pow-le-pow_right}
 use native.Mathlib.Numerals.{one-add, add-one}

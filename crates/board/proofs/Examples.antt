@@ -37,7 +37,7 @@ use Rattle.records.specs.Wire.{id_bytes}
 use Rattle.records.specs.declared.requests.Request.{Request}
 use Rattle.records.specs.declared.requests.Request.TheVariants.{Insert, Renew, Delete, Replace}
 use Rattle.calls.specs.Calls.{perform_on, outcome_paper}
-use Rattle.board.specs.declared.Checked.TheVariants.{UnsoundState, BoardMismatch}
+use Rattle.board.specs.declared.Checked.TheVariants.{UnsoundState}
 use Rattle.board.specs.declared.BoardOutcome.TheVariants as O
 use Rattle.board.specs.Board.{on, count_on, lowest_on, entry_of, count_from, board_by, matches, check_on, moved}
 use Rattle.board.specs.Forms.{call_moved, perform_board}

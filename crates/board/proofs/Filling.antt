@@ -1,6 +1,6 @@
 -- What the loops over a board keep: an entry turned, those of a coverage turned one after the other, the locks put in from the last
 -- to the first. Assumes nothing.
-use Rattle.std.proofs.Common.{◌≡◌, ℕ, suc, ◌+◌, ◌-◌, ◌*◌, ◌%◌, ◌<◌, ◌≤◌, Bool, true, false, cond, ◌&&◌, eqb, ltb, List, [], ◌∷◌, ◌++◌, length, get_or, take, drop, set, sym, refl, ap, ◌∙◌, subst, ap₂, mod-eq_of_lt, add-one, arith, length-drop, length-set, drop_of_length-le, length-take-le, get_or-drop, take_all, drop-cons, get_or-take, ltb-false, ltb-true, le-ltb, lt-ltb, le-leb}
+use Rattle.std.proofs.Common.{◌≡◌, ℕ, suc, ◌+◌, ◌*◌, ◌%◌, ◌<◌, ◌≤◌, Bool, true, false, cond, ◌&&◌, eqb, ltb, List, [], ◌∷◌, ◌++◌, length, get_or, take, drop, set, sym, refl, ap, ◌∙◌, subst, ap₂, mod-eq_of_lt, add-one, arith, length-drop, length-set, drop_of_length-le, length-take-le, get_or-drop, take_all, drop-cons, get_or-take, ltb-false, ltb-true, le-ltb, lt-ltb, le-leb}
 use native.Mathlib.Decide.{ℕ_discrete}
 use lib.Seq.{set_split, append_snoc}
 use Rattle.lists.specs.Tests.{◌and◌, Yes, No}

@@ -1,11 +1,10 @@
 -- Replies in a lent buffer: how many bytes, and where they stand. Assumes nothing.
-use mathlib.Core.Path.{◌≡◌, refl, sym, ap, ◌∙◌}
+use mathlib.Core.Path.{◌≡◌, sym, ap, ◌∙◌}
 use mathlib.Core.Bool.{cond}
-use mathlib.Core.List.{List, [], ◌∷◌, ◌++◌}
+use mathlib.Core.List.{List, [], ◌∷◌}
 use Prim.Native.Nat.{ℕ, ◌+◌, ◌*◌, ◌≤◌, ◌<◌}
-use native.Mathlib.Nat.{zero-add}
 use native.Mathlib.Omega.{arith}
-use lib.ListN.{length, take, drop}
+use lib.ListN.{length, take}
 use lib.Dec.{ltb}
 use borrow.Author.Tests.{lt-ltb, le-ltb, le-leb}
 use Rattle.lists.proofs.Tests.{cond_true, cond_false}
@@ -13,7 +12,7 @@ use Rattle.ids.specs.declared.LockId.{LockId}
 use Rattle.state.specs.declared.ActiveLock.{ActiveLock}
 use Rattle.state.specs.declared.DefunctLock.{DefunctLock}
 use Rattle.lists.specs.Papers.{paper}
-use Rattle.records.specs.Numbers.{splice, stored, bytes_of_all}
+use Rattle.records.specs.Numbers.{stored}
 use Rattle.records.specs.Wire.{id_bytes}
 use Rattle.records.proofs.Layouts.{splice_none}
 use Rattle.records.proofs.Runs.{length_all, length_id}

@@ -1,15 +1,13 @@
 -- Numbers in their ranges: the code's tests for one that is out are the definitions' tests for all that are in. Assumes nothing.
 use mathlib.Core.Path.{◌≡◌, refl, sym, ap, ◌∙◌}
-use mathlib.Core.Bool.{Bool, true, false, not, cond, ◌||◌, true≢false, false≢true}
-use Prim.Native.Nat.{ℕ, ◌≤◌, ◌<◌}
-use native.Mathlib.Omega.{arith}
-use lib.Dec.{leb, ltb, eqb}
+use mathlib.Core.Bool.{Bool, true, false, not, ◌||◌, true≢false, false≢true}
+use Prim.Native.Nat.{ℕ, ◌≤◌}
+use lib.Dec.{leb, ltb}
 use borrow.Author.Tests.{ltb-true, ltb-false, le-leb, lt-leb, not-true, not-false}
 use Rattle.lists.specs.Tests.{◌and◌}
 use Rattle.lists.proofs.Tests.{and_t, and_f, cond_true, cond_false}
 use Rattle.records.specs.Wire.{scope_right, scope_of}
 use Rattle.state.specs.declared.ScopeKey.{ScopeKey}
-use Rattle.cablegorse.specs.declared.arguments.Scoped.{Scoped}
 use Rattle.cablegorse.specs.declared.arguments.Scoped.TheVariants as scoped
 use Rattle.cablegorse.specs.Questions.{scoped_of}
 

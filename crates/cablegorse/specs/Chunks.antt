@@ -1,7 +1,7 @@
 -- A whole chunk of a feed at the boundary: what is told, and what is left in the lent buffer. The image after the last record that
 -- was read is written, also where the next one can't be read (17 to 19); a refusal of the image, and an output that is too
 -- short, write nothing. Assumes nothing.
-use Rattle.std.specs.Prelude.{cond, List, [], ◌∷◌, ℕ, ltb, length}
+use Rattle.std.specs.Prelude.{cond, List, [], ℕ, ltb, length}
 use Rattle.lists.specs.Papers.{paper}
 use Rattle.records.specs.Numbers.{stored}
 use Rattle.feed.specs.declared.following.Run.{Run}

@@ -1,6 +1,6 @@
 -- Reads at the boundary: each question by its number, its arguments as numbers or as a record, and what is replied. The reads
 -- themselves are those of crates/lookups and crates/locks. Assumes nothing.
-use Rattle.std.specs.Prelude.{Bool, true, false, cond, List, [], ◌∷◌, ℕ, ◌/◌, ◌%◌, eqb, leb, take}
+use Rattle.std.specs.Prelude.{cond, List, [], ◌∷◌, ℕ, ◌/◌, ◌%◌, eqb, leb}
 use Rattle.lists.specs.Tests.{◌and◌}
 use Rattle.lists.specs.Places.{in_places}
 use Rattle.ids.specs.declared.LockId.{LockId}

@@ -1,6 +1,6 @@
 -- Answers as they cross the boundary: document 01's number ("Numbers of the answers") and the values beside it, of which no
 -- answer has more than five. Each is made of the paper that its crate defines. Assumes nothing.
-use Rattle.std.specs.Prelude.{Bool, cond, List, [], ◌∷◌, ◌++◌, ℕ, eqb, ltb, length, get_or, drop}
+use Rattle.std.specs.Prelude.{cond, List, [], ◌∷◌, ◌++◌, ℕ, ltb, length, get_or, drop}
 use Rattle.lists.specs.Papers.{Paper, paper}
 use Rattle.locks.specs.declared.Response.{Response}
 use Rattle.locks.specs.declared.Response.TheVariants as response

@@ -16,12 +16,7 @@ pub fn cablegorse_name_number(table: &mut [u8], name: &[u8], folding: bool) -> T
 }
 
 // The name of a number, copied into the buffer.
-pub fn cablegorse_name_at(
-    table: &[u8],
-    number: u16,
-    folding: bool,
-    out: &mut [u8],
-) -> Told
+pub fn cablegorse_name_at(table: &[u8], number: u16, folding: bool, out: &mut [u8]) -> Told
     ensures { kept result out.new ≡ name_at_of folding table.now number out.old }
 {
     let place = names::place_at(table, number, folding);

@@ -1,6 +1,6 @@
 -- 12: whatever is asked of an unsound state, its operation refuses by that number, so whoever performs it need not test first.
 -- Assumes nothing.
-use mathlib.Core.Path.{◌≡◌, refl, sym, ap, ◌∙◌}
+use mathlib.Core.Path.{◌≡◌, refl, sym, ap}
 use Prim.Native.Nat.{ℕ}
 use mathlib.Core.List.{List}
 use Rattle.state.specs.declared.LockState.{LockState}

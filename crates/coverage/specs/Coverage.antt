@@ -1,7 +1,7 @@
 -- Which ECUs a coverage has, when and where two coverages overlap, and when one contains another.
 -- Document 01, "Numbers that stand for things": "Coverage: the whole vehicle, or a set of ECUs, which may be empty";
 -- and the last paragraph of "A sound state"; document 02, C-13. Every definition goes by ECU numbers 0..=255.
-use Rattle.std.specs.Prelude.{ℕ, zero, suc, ◌+◌, ◌/◌, ◌%◌, ◌^◌, Bool, true, false, cond, List, [], ◌∷◌, eqb}
+use Rattle.std.specs.Prelude.{ℕ, zero, suc, ◌/◌, ◌%◌, ◌^◌, Bool, true, false, cond, List, [], ◌∷◌, eqb}
 use Rattle.std.proofs.Math.Option.{Option, none, some}
 use Rattle.std.specs.Int.Bits.{bit_or}
 use Rattle.bits.specs.Bits.{bit_at}

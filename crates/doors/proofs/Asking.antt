@@ -1,22 +1,21 @@
 -- What a feed's bytes ask for is within the fields that it was read from. Assumes nothing.
-use mathlib.Core.Path.{◌≡◌, refl, sym, ap, ◌∙◌, subst}
+use mathlib.Core.Path.{◌≡◌, refl, sym, subst}
 use mathlib.Core.Bool.{Bool, true, false, cond}
-use mathlib.Core.List.{List, [], ◌∷◌, ◌++◌}
-use Prim.Native.Nat.{ℕ, ◌+◌, ◌*◌, ◌≤◌, ◌<◌, ◌^◌}
+use mathlib.Core.List.{List, [], ◌∷◌}
+use Prim.Native.Nat.{ℕ, ◌+◌, ◌*◌, ◌≤◌}
 use native.Mathlib.Omega.{arith}
 use lib.ListN.{length}
 use lib.Dec.{eqb}
 use Rattle.lists.specs.Tests.{Yes}
-use Rattle.state.specs.declared.ActiveLock.{ActiveLock}
 use Rattle.records.specs.declared.requests.Request.{Request}
 use Rattle.records.specs.declared.requests.Request.TheVariants.{Insert, InsertVehicle, Renew, Delete, BeginExpiration, Replace, Acknowledge, ExpireDefunct}
 use Rattle.records.specs.declared.requests.Asked.{Asked}
 use Rattle.records.specs.declared.requests.Asked.TheVariants.{Good, BadField}
-use Rattle.records.specs.Numbers.{Field, little}
-use Rattle.records.specs.Layouts.{total, fields_at, Fit}
-use Rattle.records.specs.Codecs.{Codec, in_body, decode_by, number, counted_in, counted, decode_counted}
+use Rattle.records.specs.Numbers.{little}
+use Rattle.records.specs.Layouts.{total, Fit}
+use Rattle.records.specs.Codecs.{Codec, in_body, decode_by, number, counted, decode_counted}
 use Rattle.records.specs.Wire.{active}
-use Rattle.records.specs.Feeds.{numbered, target, renewal, expiration, replacement, breaking, asked, insert_of, insert_vehicle_of, renew_of, delete_of, begin_expiration_of, replace_of, acknowledge_of, expire_defunct_of, request_of}
+use Rattle.records.specs.Feeds.{numbered, target, renewal, expiration, replacement, breaking, asked, request_of}
 use Rattle.records.proofs.Numbers.{Bytes}
 use Rattle.records.proofs.Codecs.{Lawful, passed, well_read}
 use Rattle.records.proofs.Wire.{active_lawful}

@@ -35,7 +35,7 @@ use Rattle.image.specs.declared.Reading.TheVariants as reading
 use Rattle.image.specs.declared.Writing.TheVariants as W
 use Rattle.image.specs.Image.{read_on, done, write_on}
 use Rattle.image.specs.Ranges.{InTypes}
-use Rattle.image.proofs.Trips.{Accepted, accepted, read_what_was_written}
+use Rattle.image.proofs.Trips.{accepted, read_what_was_written}
 use Rattle.image.proofs.Writes.{length_image, sound_stored}
 use Rattle.records.proofs.Numbers.{Bytes}
 use Rattle.feed.specs.declared.events.Event.{Event}

@@ -1,12 +1,12 @@
 -- A state whose numbers are within the fields of an image keeps them there over every operation whose own numbers are.
 -- Assumes nothing.
-use mathlib.Core.Path.{◌≡◌, refl, sym, ap, ◌∙◌, subst}
-use mathlib.Core.Bool.{Bool, true, false, cond}
-use mathlib.Core.List.{List, [], ◌∷◌}
+use mathlib.Core.Path.{◌≡◌, refl, sym, ◌∙◌}
+use mathlib.Core.Bool.{Bool, cond}
+use mathlib.Core.List.{List}
 use mathlib.Core.Option.{Option, none, some}
 use Prim.Native.Nat.{ℕ, ◌+◌, ◌<◌, ◌^◌}
 use native.Mathlib.Omega.{arith}
-use lib.Dec.{eqb, leb, ltb}
+use lib.Dec.{leb, ltb}
 use borrow.Author.Tests.{eqb-false}
 use Rattle.lists.specs.Tests.{Yes, No}
 use Rattle.lists.specs.Lists.{Mem, any, find}
@@ -26,12 +26,12 @@ use Rattle.operations.specs.Checks.{last_revision, at_last_lem, check_revision}
 use Rattle.operations.specs.Code.{judge_bundled}
 use Rattle.operations.specs.Insert.{inserted_in, judge_insert}
 use Rattle.operations.specs.Vehicle.{vehicle_in, judge_vehicle}
-use Rattle.operations.specs.Renew.{renewed_in, judge_lock, judge_found, judge_renew}
+use Rattle.operations.specs.Renew.{renewed_in, judge_found, judge_renew}
 use Rattle.operations.specs.Delete.{without_tree}
 use Rattle.operations.specs.Replace.{replaced_in, judge_replace}
 use Rattle.operations.specs.Acknowledge.{shed_in, lapsed, lapsed_of}
 use Rattle.operations.proofs.Bundles.{judge_insert_lem, judge_replace_lem}
-use Rattle.promises.specs.Steps.{Op, insert_active, insert_vehicle, renew, delete, begin_expiration, commit_replacement, acknowledge, expire_defunct, after, after_renewal, after_delete, after_expiration, step}
+use Rattle.promises.specs.Steps.{Op, insert_active, insert_vehicle, renew, delete, begin_expiration, commit_replacement, acknowledge, expire_defunct, after_renewal, after_delete, after_expiration, step}
 use Rattle.promises.proofs.Passed.{then_done, done_is, is_done_lem, went_on}
 use Rattle.promises.proofs.Carried.{Held, remove_holds, all_holds, insert_holds, vehicle_holds, renew_holds, delete_holds, shed_holds, replace_holds}
 use Rattle.records.proofs.Fits.{FitA, fit_normal}

@@ -1,26 +1,24 @@
 -- The range conditions of an image's round trip hold of every spare that an accepted image holds, and of every spare that a
 -- step over a feed's bytes or a delete_defunct leaves after it: by theorem. Assumes nothing.
 use mathlib.Core.Path.{◌≡◌, refl, sym, ap, ◌∙◌, subst}
-use mathlib.Core.Bool.{Bool, true, false, cond}
+use mathlib.Core.Bool.{true}
 use mathlib.Core.List.Memᴰ
-use mathlib.Core.List.{List, [], ◌∷◌, ◌++◌, Memᴰ}
-use mathlib.Core.Logic.{◌⊎◌, inl, inr}
-use Prim.Native.Nat.{ℕ, zero, suc, ◌+◌, ◌-◌, ◌%◌, ◌≤◌, ◌<◌, ◌^◌}
+use mathlib.Core.List.{List, ◌∷◌, ◌++◌, Memᴰ}
+use mathlib.Core.Logic.{inl, inr}
+use Prim.Native.Nat.{ℕ, zero, suc, ◌-◌, ◌≤◌, ◌<◌, ◌^◌}
 use native.Mathlib.Omega.{arith}
-use lib.ListN.{length, take, replicate, length-append, length-replicate}
+use lib.ListN.{length, replicate, length-append, length-replicate}
 use lib.Dec.{ltb}
 use borrow.Author.Tests.{leb-true}
-use Rattle.lists.specs.Tests.{◌and◌, Yes}
+use Rattle.lists.specs.Tests.{Yes}
 use Rattle.lists.specs.Lists.{Mem}
 use Rattle.lists.proofs.Tests.{and_l, and_r}
-use Rattle.state.specs.declared.ActiveLock.{ActiveLock}
-use Rattle.state.specs.declared.DefunctLock.{DefunctLock}
 use Rattle.state.specs.declared.LockState.{LockState}
 use Rattle.state.specs.Locks.{blank_active, blank_defunct}
 use Rattle.state.specs.Model.{Model, model_of, state_of, full, fits}
 use Rattle.state.proofs.Laws.{model-of-state}
 use Rattle.rules.specs.declared.Verdict.TheVariants.{Sound}
-use Rattle.rules.specs.Rules.{broken_rule, sound}
+use Rattle.rules.specs.Rules.{broken_rule}
 use Rattle.rules.proofs.Sound.{sound_of}
 use Rattle.records.specs.declared.bodies.Head.{Head}
 use Rattle.records.specs.declared.requests.Asked.{Asked}
@@ -29,7 +27,7 @@ use Rattle.records.specs.declared.frame.Frame.{Frame}
 use Rattle.records.specs.declared.frame.Framed.{Framed}
 use Rattle.records.specs.declared.frame.Framed.TheVariants as framed
 use Rattle.records.specs.Numbers.{part}
-use Rattle.records.specs.Layouts.{total, Fit}
+use Rattle.records.specs.Layouts.{Fit}
 use Rattle.records.specs.Codecs.{Codec}
 use Rattle.records.specs.Table.{at_head, in_feed}
 use Rattle.records.specs.Framing.{frame_at}
@@ -45,10 +43,10 @@ use Rattle.promises.proofs.Core.{stands_of}
 use Rattle.promises.proofs.Agree.{steps_agree}
 use Rattle.image.specs.declared.Spare.{Spare}
 use Rattle.image.specs.declared.Reading.TheVariants as reading
-use Rattle.image.specs.Image.{got, record_at, Listed, active_list, defunct_list, run_at, low_after, Held as ImageHeld, held_of, lists_at, held_by, held_in, spare_of, read_on}
+use Rattle.image.specs.Image.{got, record_at, Listed, active_list, defunct_list, run_at, low_after, Held as ImageHeld, held_of, lists_at, held_by, held_in, read_on}
 use Rattle.image.specs.Ranges.{InTypes}
-use Rattle.image.proofs.Halves.{Taken, taken, First, first, none, then_got, cond_got}
-use Rattle.image.proofs.Trips.{mem_take, Accepted, accepted}
+use Rattle.image.proofs.Halves.{taken, First, first, none, then_got, cond_got}
+use Rattle.image.proofs.Trips.{mem_take, accepted}
 use Rattle.feed.specs.declared.events.Step.{Step}
 use Rattle.feed.specs.Feed.{after, Numbered, numbered, body_in, taken_asked, taken_framed, taken_at, act_on, turn_on, taken_on, step_on}
 use Rattle.feed.proofs.Turning.{turn_comes, step_sound}

@@ -1,8 +1,8 @@
 -- A host at the library's door: it calls cablegorse_apply record after record, image to image, with any buffers, and keeps
 -- the image that was written (part 2), or the one it has where the record was out of turn (part 1 with 15 or 16). Assumes
 -- nothing.
-use Rattle.std.specs.Prelude.{ℕ, zero, suc, List, ◌≡◌, ◌⊎◌, take}
-use Rattle.cablegorse.specs.Changes.{Changed, apply_of}
+use Rattle.std.specs.Prelude.{ℕ, suc, List, ◌≡◌, ◌⊎◌, take}
+use Rattle.cablegorse.specs.Changes.{apply_of}
 
 -- from one image and place of the feed to another
 pub data Chain (feed : List ℕ) : List ℕ → ℕ → List ℕ → ℕ → Type 0 where

@@ -4,7 +4,6 @@ use Rattle.std.proofs.Common.{◌≡◌, ℕ, zero, suc, ◌+◌, ◌-◌, ◌<�
 use borrow.Author.Tests.{lt-leb}
 use Rattle.lists.proofs.Tests.{cond_true, cond_false}
 use Rattle.image.specs.declared.Spare.{Spare}
-use Rattle.feed.specs.declared.events.Event.{Event}
 use Rattle.feed.specs.declared.events.Step.{Step}
 use Rattle.feed.specs.declared.following.Run.{Run}
 use Rattle.feed.specs.declared.following.Stop.{Stop}

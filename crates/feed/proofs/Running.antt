@@ -5,7 +5,7 @@ use Rattle.records.specs.declared.frame.Framed.{Framed}
 use Rattle.records.specs.declared.frame.Framed.TheVariants as framed
 use Rattle.records.specs.Table.{in_feed}
 use Rattle.records.specs.Framing.{frame_at}
-use Rattle.records.proofs.Framing.{Whole, whole, under_four}
+use Rattle.records.proofs.Framing.{whole, under_four}
 use Rattle.image.specs.declared.Spare.{Spare}
 use Rattle.feed.specs.declared.events.Step.{Step}
 use Rattle.feed.specs.declared.taking.Taken.{Taken}

@@ -22,7 +22,6 @@ use Rattle.calls.specs.Calls.{perform_on, outcome_paper}
 use Rattle.calls.proofs.Unsound.{refused_unsound}
 use Rattle.feed.specs.declared.events.Event.TheVariants as E
 use Rattle.feed.specs.declared.events.Step.{Step}
-use Rattle.feed.specs.declared.taking.Placed.{Placed}
 use Rattle.feed.specs.declared.taking.Taken.{Taken}
 use Rattle.feed.specs.declared.taking.Taken.TheVariants as taken
 use Rattle.feed.specs.Feed.{distance, after, Numbered, body_in, taken_asked, taken_framed, taken_at, still, onward, act_on, turn_on, taken_on, step_on}

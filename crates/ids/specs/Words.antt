@@ -1,6 +1,6 @@
 -- Id lists. Document 01: "An id list holds two u64 words an id, first half first"; 14 BadList: "an id list with an odd
 -- number of 64-bit words". A word without its fellow names no id.
-use Rattle.std.specs.Prelude.{ℕ, ◌%◌, Bool, true, false, cond, List, [], ◌∷◌, eqb, length}
+use Rattle.std.specs.Prelude.{ℕ, ◌%◌, Bool, cond, List, [], ◌∷◌, eqb, length}
 use Rattle.lists.specs.Tests.{non}
 use Rattle.lists.specs.Lists.{any}
 use Rattle.ids.specs.declared.LockId.{LockId}

@@ -1,22 +1,19 @@
 -- What was read writes back: a record, a run of records, the lists of a whole image.
 -- Assumes nothing.
-use mathlib.Core.Path.{◌≡◌, refl, sym, ap, ap₂, ◌∙◌, subst}
-use mathlib.Core.Bool.{Bool, cond}
-use mathlib.Core.List.{List, [], ◌∷◌, ◌++◌}
-use Prim.Native.Nat.{ℕ, zero, suc, ◌+◌, ◌*◌, ◌-◌, ◌≤◌, ◌<◌}
-use native.Mathlib.Nat.{zero-add, zero-mul}
+use mathlib.Core.Path.{◌≡◌, refl, sym, ap, ap₂, ◌∙◌}
+use mathlib.Core.Bool.{Bool}
+use mathlib.Core.List.{List, ◌++◌}
+use Prim.Native.Nat.{ℕ, zero, suc, ◌+◌, ◌*◌, ◌≤◌}
+use native.Mathlib.Nat.{zero-mul}
 use native.Mathlib.Omega.{arith}
-use lib.ListN.{length, take, drop}
+use lib.ListN.{length}
 use lib.Seq.{take_all}
 use lib.Dec.{eqb, ltb}
 use borrow.Author.Tests.{eqb-true, eq-eqb, ltb-false}
-use Rattle.lists.specs.Tests.{◌and◌, ◌imp◌, Yes, No}
+use Rattle.lists.specs.Tests.{◌and◌, ◌imp◌, Yes}
 use Rattle.lists.specs.Lists.{all}
 use Rattle.lists.proofs.Tests.{imp_e}
 use Rattle.lists.proofs.Lists.{all→}
-use Rattle.state.specs.declared.ActiveLock.{ActiveLock}
-use Rattle.state.specs.declared.DefunctLock.{DefunctLock}
-use Rattle.state.specs.Model.{Model}
 use Rattle.records.specs.declared.kinds.Kind.{Kind}
 use Rattle.records.specs.declared.bodies.Head.{Head}
 use Rattle.records.specs.Numbers.{part, bytes_of_all}
@@ -30,7 +27,7 @@ use Rattle.records.proofs.Codecs.{is_good, round_trips}
 use Rattle.records.proofs.Table.{rule}
 use Rattle.records.proofs.Framing.{whole, record_part}
 use Rattle.image.specs.declared.Reading.TheVariants.{BadField, BadOrder}
-use Rattle.image.specs.Image.{Got, stopped, got, and_then, record_at, Listed, active_list, defunct_list, low_after, run_at, Held, held_of, lists_at, held_by, bytes_of_one, bytes_of_run, head_of, image_of}
+use Rattle.image.specs.Image.{stopped, got, record_at, Listed, active_list, defunct_list, low_after, run_at, Held, held_of, lists_at, held_by, bytes_of_run, head_of, image_of}
 use Rattle.image.proofs.Halves.{taken, first, none, run_length, then_got, cond_got}
 use Rattle.image.proofs.Writes.{Plain, head_plain, active_plain, defunct_plain}
 

@@ -32,7 +32,7 @@ use Rattle.image.specs.declared.Imaged.{Imaged}
 use Rattle.image.specs.declared.Reading.{Reading}
 use Rattle.image.specs.declared.Reading.TheVariants.{Done, Torn, BadKind, BadField, BadOrder, UnsoundState}
 use Rattle.image.specs.declared.read.Begun.{Begun}
-use Rattle.image.specs.Image.{Got, stopped, got, and_then, of_frame, record_at, Listed, active_list, defunct_list, ahead, low_after, run_at, Held, held_of, lists_at, held_by, refusal, imaged, records_of, judged, tested, read_on}
+use Rattle.image.specs.Image.{Got, stopped, got, and_then, of_frame, record_at, Listed, active_list, defunct_list, ahead, low_after, run_at, Held, held_of, lists_at, held_by, imaged, records_of, judged, tested, read_on}
 use Rattle.image.specs.declared.reader.HeadStep.{HeadStep}
 use Rattle.image.specs.declared.reader.HeadStep.TheVariants as head
 use Rattle.image.specs.Steps.{head_step, head_at}

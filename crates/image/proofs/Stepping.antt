@@ -1,6 +1,6 @@
 -- What the code shows of one record, each law once for every kind.
 -- Assumes nothing.
-use mathlib.Core.Path.{◌≡◌, refl, sym, ap, ◌∙◌, subst}
+use mathlib.Core.Path.{◌≡◌, refl, sym, ap, ◌∙◌}
 use mathlib.Core.Bool.{Bool, true, false, cond}
 use mathlib.Core.List.{List}
 use Prim.Native.Nat.{ℕ, ◌+◌, ◌-◌, ◌≤◌}
@@ -25,12 +25,10 @@ use Rattle.records.specs.Layouts.{total}
 use Rattle.records.specs.Codecs.{Codec, in_body, decode_by}
 use Rattle.records.specs.Framing.{frame_at}
 use Rattle.records.specs.Wire as wire
-use Rattle.records.proofs.Framing.{Whole, whole}
+use Rattle.records.proofs.Framing.{whole}
 use Rattle.image.specs.declared.Reading.{Reading}
 use Rattle.image.specs.declared.Reading.TheVariants.{Torn, BadKind, BadField}
 use Rattle.image.specs.declared.reader.Due.{Due}
-use Rattle.image.specs.declared.reader.Due.TheVariants as Due
-use Rattle.image.specs.declared.reader.Step.{Step}
 use Rattle.image.specs.declared.reader.Step.TheVariants as S
 use Rattle.image.specs.declared.reader.Stepped.{Stepped}
 use Rattle.image.specs.declared.reader.HeadStep.{HeadStep}
@@ -39,7 +37,7 @@ use Rattle.image.specs.declared.reader.ActiveStep.{ActiveStep}
 use Rattle.image.specs.declared.reader.ActiveStep.TheVariants as active
 use Rattle.image.specs.declared.reader.DefunctStep.{DefunctStep}
 use Rattle.image.specs.declared.reader.DefunctStep.TheVariants as defunct
-use Rattle.image.specs.Image.{Got, stopped, got, of_frame, record_at}
+use Rattle.image.specs.Image.{stopped, got, of_frame, record_at}
 use Rattle.image.specs.Steps.{place_of, step_by, step_of, head_step, active_step, defunct_step, head_at, active_at, defunct_at}
 
 choose_map : {A B : Type 0} (f : A → B) (b : Bool) (x y : A) → cond b (f x) (f y) ≡ f (cond b x y)

@@ -1,10 +1,10 @@
 -- What is written reads back: a record that stands anywhere, a run of records, the lists of a whole image.
 -- Assumes nothing.
-use mathlib.Core.Path.{◌≡◌, refl, sym, ap, ap₂, ◌∙◌}
+use mathlib.Core.Path.{◌≡◌, refl, sym, ap, ◌∙◌}
 use mathlib.Core.Bool.{true, cond}
 use mathlib.Core.List.Memᴰ
 use mathlib.Core.List.{List, [], ◌∷◌, ◌++◌, append_assoc, append-nil}
-use Prim.Native.Nat.{ℕ, zero, suc, ◌+◌, ◌*◌, ◌-◌, ◌≤◌}
+use Prim.Native.Nat.{ℕ, suc, ◌+◌, ◌*◌, ◌-◌}
 use native.Mathlib.Nat.{mul-zero}
 use native.Mathlib.Omega.{arith}
 use lib.ListN.{length, length-append}
@@ -18,7 +18,6 @@ use Rattle.state.specs.declared.ActiveLock.{ActiveLock}
 use Rattle.state.specs.declared.DefunctLock.{DefunctLock}
 use Rattle.state.specs.Locks.{akey, dkey}
 use Rattle.state.specs.Model.{Model}
-use Rattle.records.specs.declared.frame.Framed.{Framed}
 use Rattle.records.specs.declared.frame.Framed.TheVariants as F
 use Rattle.records.specs.declared.bodies.Head.{Head}
 use Rattle.records.specs.Numbers.{part, bytes_of_all}
@@ -31,7 +30,6 @@ use Rattle.records.proofs.Codecs.{Well, round_trips}
 use Rattle.records.proofs.Table.{possible_sum}
 use Rattle.records.proofs.Framing.{frame_record, body_in_lem}
 use Rattle.records.proofs.Storing.{length_body}
-use Rattle.image.specs.declared.Reading.{Reading}
 use Rattle.image.specs.declared.Reading.TheVariants.{BadField, BadOrder}
 use Rattle.image.specs.Image.{Got, stopped, got, and_then, of_frame, record_at, Listed, active_list, defunct_list, ahead, run_at, Held, held_of, lists_at, held_by, held_in, bytes_of_one, bytes_of_run, head_of, image_of}
 use Rattle.image.proofs.Writes.{Plain, head_plain, active_plain, defunct_plain, length_whole, length_run}

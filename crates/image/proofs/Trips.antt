@@ -1,40 +1,36 @@
 -- Both round trips of an image, and what follows from them. Document 01: "equal images mean equal locks".
 -- Assumes nothing.
 use mathlib.Core.Path.{◌≡◌, refl, sym, ap, ap₂, ◌∙◌, subst}
-use mathlib.Core.Bool.{Bool, true, false, cond, false≢true}
+use mathlib.Core.Bool.{Bool, true, false, cond}
 use mathlib.Core.List.Memᴰ
-use mathlib.Core.List.{List, [], ◌∷◌, ◌++◌}
-use Prim.Native.Nat.{ℕ, ◌+◌, ◌*◌, ◌^◌, ◌≤◌, ◌<◌}
+use mathlib.Core.List.{List, ◌++◌}
+use Prim.Native.Nat.{ℕ, ◌≤◌}
 use native.Mathlib.Omega.{arith}
-use lib.ListN.{length, take, drop, get_or, take-append-drop}
+use lib.ListN.{length, take, drop, take-append-drop}
 use lib.Seq.{take_at}
-use lib.Dec.{eqb, leb, ltb}
+use lib.Dec.{ltb}
 use borrow.Author.Tests.{le-leb, le-ltb, leb-true}
-use Rattle.lists.specs.Tests.{◌and◌, Yes, No}
-use Rattle.lists.specs.Lists.{all, Mem}
+use Rattle.lists.specs.Tests.{Yes}
+use Rattle.lists.specs.Lists.{Mem}
 use Rattle.lists.proofs.Tests.{and_l, and_r, and_i, against, cond_false}
 use Rattle.lists.proofs.Lists.{all→}
-use Rattle.ids.specs.declared.LockId.{LockId}
 use Rattle.state.specs.declared.Lock.{Lock}
 use Rattle.state.specs.declared.ActiveLock.{ActiveLock}
 use Rattle.state.specs.declared.DefunctLock.{DefunctLock}
 use Rattle.state.specs.declared.LockState.{LockState}
-use Rattle.state.specs.Model.{Model, model_of, state_of, full, fits}
+use Rattle.state.specs.Model.{Model, model_of, state_of, fits}
 use Rattle.state.proofs.Laws.{model-of-state}
 use Rattle.rules.specs.declared.Verdict.{Verdict}
 use Rattle.rules.specs.declared.Verdict.TheVariants.{Sound, Broken}
 use Rattle.rules.specs.Rules.{zero_id, zero_set, neat_l, neat_a, neat_d, neat, in_order, broken_rule}
 use Rattle.rules.proofs.Sound.{facts_of_state, tidy_of_sound}
-use Rattle.records.specs.Codecs.{Codec}
 use Rattle.records.specs.Wire as wire
 use Rattle.records.proofs.Numbers.{Bytes}
-use Rattle.records.proofs.Codecs.{Well}
 use Rattle.records.proofs.Wire.{lock_neat, active_neat, defunct_neat, head_faithful, active_faithful, defunct_faithful}
 use Rattle.image.specs.declared.Spare.{Spare}
 use Rattle.image.specs.declared.Imaged.{Imaged}
 use Rattle.image.specs.declared.Reading.{Reading}
-use Rattle.image.specs.declared.Reading.TheVariants.{Done, Torn, BadKind, BadField, BadOrder, UnsoundState}
-use Rattle.image.specs.declared.Writing.{Writing}
+use Rattle.image.specs.declared.Reading.TheVariants.{Done, UnsoundState}
 use Rattle.image.specs.declared.Writing.TheVariants as W
 use Rattle.image.specs.Image.{Got, stopped, got, Held, held_in, spare_of, no_spare, refusal, imaged, records_of, judged, tested, read_on, head_of, image_of, Written, done, fitted, written_by, write_on, reading_paper}
 use Rattle.image.specs.Ranges.{InTypes}

@@ -1,6 +1,6 @@
 -- Images. Document 01: "Image: HEAD, active, defunct, ids strictly ascending (20, after the record's other checks), nothing
 -- after (20, at the first extra byte), then the sound-state test." Offsets are a record's start. Assumes nothing.
-use Rattle.std.specs.Prelude.{ℕ, zero, suc, Bool, true, false, cond, List, [], ◌∷◌, ◌++◌, length, drop, ltb}
+use Rattle.std.specs.Prelude.{ℕ, zero, suc, Bool, true, cond, List, [], ◌∷◌, ◌++◌, length, drop, ltb}
 use Rattle.lists.specs.Papers.{Paper, paper}
 use Rattle.state.specs.declared.ActiveLock.{ActiveLock}
 use Rattle.state.specs.declared.DefunctLock.{DefunctLock}

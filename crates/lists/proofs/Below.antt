@@ -2,17 +2,17 @@
 -- keep; and the lowest number that passes.
 -- Assumes nothing.
 use mathlib.Core.Path.{◌≡◌, refl, sym, subst, ap, ap₂, ◌∙◌}
-use mathlib.Core.Logic.{◌⊎◌, inl, inr, ⊎_elim}
+use mathlib.Core.Logic.{⊎_elim}
 use mathlib.Core.Bool.{Bool, true, false, cond, false≢true}
 use mathlib.Core.Option.{Option, none, some}
 use Prim.Native.Nat.{ℕ, zero, suc, ◌+◌, ◌*◌, ◌/◌, ◌%◌, ◌<◌}
-use native.Mathlib.Nat.{le_step, lt-suc_self, not-suc-le-zero, div-lt_iff_lt-mul, mod-lt}
+use native.Mathlib.Nat.{le_step, lt-suc_self, div-lt_iff_lt-mul, mod-lt}
 use native.Mathlib.Decide.{ℕ_discrete}
 use native.Mathlib.Omega.{arith}
 use lib.Arith.{digits_lt, digits_div, digits_mod}
 use lib.Dec.{ltb}
 use borrow.Author.Tests.{ltb-true, ltb-false}
-use Rattle.lists.specs.Tests.{◌and◌, ◌or◌, Yes, No}
+use Rattle.lists.specs.Tests.{◌and◌, ◌or◌}
 use Rattle.lists.specs.Below.{all_below, any_below, or_else, lowest_below}
 use Rattle.lists.proofs.Tests.{and_l, and_r, and_i, or_e, or_l, or_r, against, →no, by, same_test}
 

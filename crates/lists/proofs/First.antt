@@ -3,17 +3,17 @@
 use mathlib.Core.Bool.{Bool, true, false, cond}
 use mathlib.Core.List.Memᴰ
 use mathlib.Core.List.{List, [], ◌∷◌, map}
-use mathlib.Core.Option.{Option, none, some}
-use mathlib.Core.Path.{◌≡◌, refl, sym, ap, ◌∙◌}
-use Prim.Native.Nat.{ℕ, zero, suc, ◌+◌, ◌≤◌, ◌<◌, zero-le, suc-le-suc}
+use mathlib.Core.Option.{none, some}
+use mathlib.Core.Path.{◌≡◌, refl, ap}
+use Prim.Native.Nat.{ℕ, suc, ◌+◌, ◌≤◌, ◌<◌, zero-le, suc-le-suc}
 use native.Mathlib.Numerals.{add-one}
 use native.Mathlib.Omega.{arith}
 use lib.Dec.{eqb}
 use lib.ListN.{length, get_or, set}
 use lib.Seq.{slice, slice_empty}
 use borrow.Author.Tests.{eqb-true, ne_eqb}
-use Rattle.lists.specs.Tests.{non, Yes, No}
-use Rattle.lists.specs.Lists.{any, filter, find, Mem, from, ascending}
+use Rattle.lists.specs.Tests.{non, Yes}
+use Rattle.lists.specs.Lists.{any, filter, find, Mem, from}
 use Rattle.lists.specs.Places.{leading}
 use Rattle.lists.proofs.Tests.{→no, by}
 use Rattle.lists.proofs.Lists.{any→, →filter, from→, rest}

@@ -1,18 +1,18 @@
 -- Laws of lists: members, what a test keeps and finds, the pigeonhole law, ascending lists and insertion.
 -- Assumes nothing.
 use mathlib.Core.Path.{◌≡◌, refl, sym, ap, ◌∙◌, subst}
-use mathlib.Core.Bool.{Bool, true, false, cond, true≢false, false≢true}
+use mathlib.Core.Bool.{Bool, true, false, cond, false≢true}
 use mathlib.Core.List.Memᴰ
-use mathlib.Core.List.{List, [], ◌∷◌, ◌++◌, map, Memᴰ}
+use mathlib.Core.List.{List, [], ◌∷◌, map, Memᴰ}
 use mathlib.Core.Option
 use mathlib.Core.Option.{Option, none, some, none-ne-some, some-ne-none, some-injective}
 use mathlib.Core.Logic.{◌⊎◌, inl, inr}
-use Prim.Native.Nat.{ℕ, zero, suc, ◌+◌, ◌≤◌, ◌<◌}
+use Prim.Native.Nat.{ℕ, suc, ◌≤◌, ◌<◌}
 use native.Mathlib.Omega.{arith}
 use lib.ListN.{length}
 use lib.Dec.{eqb, ltb, leb}
-use borrow.Author.Tests.{eq-eqb, ne_eqb, eqb-true, eqb-false, leb-true, ltb-true, ltb-false, lt-ltb, le-leb}
-use Rattle.lists.specs.Tests.{◌and◌, ◌or◌, ◌imp◌, non, Yes, No}
+use borrow.Author.Tests.{eq-eqb, eqb-true, leb-true, ltb-true, ltb-false, le-leb}
+use Rattle.lists.specs.Tests.{non, Yes, No}
 use Rattle.lists.specs.Lists.{all, any, filter, find, Mem, Fresh, from, ascending, insert_by}
 use Rattle.lists.proofs.Tests.{against, →no, non_yes, yes_non, and_l, and_r, and_i, or_e, or_l, or_r, by, cond_true, cond_false, cond_both}
 

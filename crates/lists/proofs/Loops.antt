@@ -2,17 +2,17 @@
 -- Assumes nothing.
 use mathlib.Core.Bool.{Bool, true, false, cond}
 use mathlib.Core.List.{List, [], ◌∷◌, ◌++◌, map, append_assoc, append-nil}
-use mathlib.Core.Option.{Option, none, some}
+use mathlib.Core.Option.{none, some}
 use mathlib.Core.Path.{◌≡◌, refl, sym, ap, ◌∙◌}
-use Prim.Native.Nat.{ℕ, zero, suc, ◌+◌, ◌-◌, ◌≤◌, ◌<◌, zero-le, suc-le-suc}
+use Prim.Native.Nat.{ℕ, suc, ◌+◌, ◌-◌, ◌≤◌, ◌<◌}
 use native.Mathlib.Numerals.{add-one}
 use native.Mathlib.Omega.{arith}
-use lib.ListN.{length, get_or, set, take, drop, replicate, length-append, length-take, length-map}
-use lib.Seq.{slice, slice-cons, slice_empty, set_at, take_at, take-suc, length-take-le}
-use Rattle.lists.specs.Tests.{non, ◌or◌}
+use lib.ListN.{length, get_or, set, take, replicate, length-append, length-map}
+use lib.Seq.{slice, slice-cons, slice_empty, set_at, take_at, take-suc}
+use Rattle.lists.specs.Tests.{non}
 use Rattle.lists.specs.Lists.{any, filter, find}
 use Rattle.lists.proofs.Tests.{or_t, or_f, or_no}
-use Rattle.lists.specs.Places.{in_places, leading, Holds}
+use Rattle.lists.specs.Places.{in_places, Holds}
 
 -- an array of structs in a struct has its length from what owning it tells, which speaks of the list mapped
 pub length_of_mapped : (X Y : Type 0) (f : X → Y) (l : List X) (n : ℕ) → length (map f l) ≡ n → length l ≡ n

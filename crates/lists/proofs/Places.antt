@@ -11,7 +11,7 @@ use lib.ListN.{length, get_or, set, take, drop, length-append, length-take, leng
 use lib.Seq.{get_or-set_same, get_or-set_other, get_or-take, get_or-drop, length-take-le}
 use lib.Dec.{leb}
 use borrow.Author.Tests.{le-leb}
-use Rattle.lists.specs.Tests.{◌and◌, Yes, No}
+use Rattle.lists.specs.Tests.{Yes}
 use Rattle.lists.specs.Lists.{all, Mem, from, ascending}
 use Rattle.lists.specs.Below.{all_below}
 use Rattle.lists.specs.Places.{splice}

@@ -2,13 +2,13 @@
 --     shiftedUp a j n      of n used places, those from j on are one place up; place j is still as it was
 --     shiftedDown a i j    the places past i up to j are one place down
 -- Assumes nothing.
-use mathlib.Core.Path.{◌≡◌, refl, sym, ap, subst, ◌∙◌}
+use mathlib.Core.Path.{◌≡◌, refl, sym, ap, ◌∙◌}
 use mathlib.Core.List.{List, [], ◌∷◌, ◌++◌, append_assoc}
 use Prim.Native.Nat.{ℕ, zero, suc, ◌+◌, ◌-◌, ◌≤◌, ◌<◌}
 use native.Mathlib.Numerals.{add-one}
 use native.Mathlib.Omega.{arith}
 use lib.ListN.{length, get_or, set, take, drop, replicate, take-append-drop, length-append, length-take, length-drop, get_or-append}
-use lib.Seq.{slice, take-take, drop_at, slice_empty, slice-cons, take-suc, append_snoc, set_at, get_or_at, get_or-take, get_or-append-add, get_or-drop, drop-append-add, length-take-le, length-slice}
+use lib.Seq.{slice, take-take, slice_empty, set_at, get_or-take, drop-append-add, length-take-le}
 use Rattle.lists.specs.Places.{opened, in_places, leading}
 use Rattle.lists.specs.Tests.{non}
 use Rattle.lists.specs.Lists.{insert_by}

@@ -1,5 +1,5 @@
 -- Lists: a test of every or of some element, what a test keeps and finds, the ascending order of a key.
-use Rattle.std.specs.Prelude.{Bool, true, false, cond, ℕ, zero, suc, ltb, leb}
+use Rattle.std.specs.Prelude.{Bool, true, false, cond, ℕ, suc, ltb, leb}
 use mathlib.Core.List.{List, [], ◌∷◌, Memᴰ}
 use Rattle.std.proofs.Math.Option.{Option, none, some}
 use Rattle.lists.specs.Tests.{◌and◌, ◌or◌}

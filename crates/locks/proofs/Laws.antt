@@ -3,7 +3,7 @@
 -- Assumes nothing.
 use mathlib.Core.Bool.{Bool, true, false, cond, not, ◌&&◌, ◌||◌}
 use mathlib.Core.List.{List, [], ◌∷◌}
-use mathlib.Core.Logic.{◌⊎◌, inl, inr}
+use mathlib.Core.Logic.{inl, inr}
 use mathlib.Core.Option.{Option, none, some}
 use mathlib.Core.Path.{◌≡◌, refl, sym, ap, subst, ◌∙◌}
 use Prim.Native.Nat.{ℕ, zero, suc, ◌+◌, ◌≤◌, ◌<◌}
@@ -30,9 +30,7 @@ use Rattle.state.specs.Model.{model_of}
 use Rattle.rules.specs.declared.Verdict.{Verdict}
 use Rattle.rules.specs.declared.Verdict.TheVariants.{Sound, Broken}
 use Rattle.rules.specs.Rules.{broken_rule}
-use Rattle.lookups.specs.declared.FoundActive.{FoundActive}
 use Rattle.lookups.specs.declared.FoundActive.TheVariants as active
-use Rattle.lookups.specs.declared.Truth.{Truth}
 use Rattle.lookups.specs.declared.Truth.TheVariants as truth
 use Rattle.lookups.specs.Reads.{by_verdict, on_sound, on_scope, told_a, active_for_scope_on}
 use Rattle.lookups.proofs.Verdicts.{on_sound_lem}
@@ -40,17 +38,13 @@ use Rattle.operations.specs.declared.answers.Acknowledgement.TheVariants as ackn
 use Rattle.operations.specs.declared.answers.Acknowledged.{Acknowledged}
 use Rattle.operations.specs.Acknowledge.{acknowledged, acknowledge_on}
 use Rattle.operations.proofs.Flags.{any_more}
-use Rattle.locks.specs.declared.Response.{Response}
 use Rattle.locks.specs.declared.Response.TheVariants as response
-use Rattle.locks.specs.declared.Owner.{Owner}
 use Rattle.locks.specs.declared.Owner.TheVariants as owner
-use Rattle.locks.specs.declared.Update.{Update}
 use Rattle.locks.specs.declared.Update.TheVariants as update
 use Rattle.locks.specs.declared.Kinds.{Kinds}
 use Rattle.locks.specs.declared.Dropping.{Dropping}
 use Rattle.locks.specs.declared.Dropping.TheVariants as dropping
-use Rattle.locks.specs.declared.Dropped.{Dropped}
-use Rattle.locks.specs.Locks.{one_of, response_of, told_owner, vehicle_owner_on, non_vehicle, has_non_vehicle_on, group_lock, ecu_lock, raised, prepare_update_on, dropped, as_dropped, drop_found_on, delete_defunct_on}
+use Rattle.locks.specs.Locks.{response_of, told_owner, vehicle_owner_on, non_vehicle, has_non_vehicle_on, group_lock, ecu_lock, raised, prepare_update_on, dropped, as_dropped, drop_found_on, delete_defunct_on}
 use Rattle.locks.specs.Code.{owner_of, kinds_of, judge_entry, judge_drop}
 use Rattle.locks.specs.contracts.Dropping.{the_type}
 

@@ -1,8 +1,7 @@
 -- No two answers have one paper: from document 01's number and values the answer is read back.
 -- Assumes nothing.
-use mathlib.Core.List.{List, [], ◌∷◌}
+use mathlib.Core.List.{[], ◌∷◌}
 use mathlib.Core.Path.{◌≡◌, refl}
-use Prim.Native.Nat.{ℕ}
 use Rattle.lists.specs.Papers.{Paper}
 use Rattle.lists.proofs.Papers.{pick, one_to_one, value_at}
 use Rattle.locks.specs.declared.Owner.{Owner}

@@ -1,11 +1,11 @@
 -- Source document 001's five functions. Document 01, "What is carried over", "Order of checks" and the response classes.
-use Rattle.std.specs.Prelude.{Bool, true, false, cond, List, [], ◌∷◌, ℕ, ◌+◌, eqb}
+use Rattle.std.specs.Prelude.{Bool, cond, List, [], ◌∷◌, ℕ, ◌+◌, eqb}
 use Rattle.std.proofs.Math.Option.{Option, none, some}
-use Rattle.lists.specs.Tests.{◌and◌, ◌or◌, non}
+use Rattle.lists.specs.Tests.{◌and◌, non}
 use Rattle.lists.specs.Lists.{any, find}
 use Rattle.ids.specs.declared.LockId.{LockId}
 use Rattle.state.specs.declared.ScopeKey.{ScopeKey}
-use Rattle.state.specs.declared.ScopeKey.TheVariants.{Vehicle, Ecu, FunctionalGroup}
+use Rattle.state.specs.declared.ScopeKey.TheVariants.{Vehicle}
 use Rattle.state.specs.declared.ActiveLock.{ActiveLock}
 use Rattle.state.specs.declared.DefunctLock.{DefunctLock}
 use Rattle.state.specs.declared.LockState.{LockState}

@@ -1,6 +1,6 @@
 -- The holder's walk, told by the entries that it passes: there is one way to follow, and where walks end (rule 9) the walk
 -- finds it, and its count is the number of the entries. Assumes nothing.
-use mathlib.Core.Path.{◌≡◌, refl, sym, ap, ap₂, subst, ◌∙◌}
+use mathlib.Core.Path.{◌≡◌, refl, sym, ap, ap₂, ◌∙◌}
 use mathlib.Core.Bool.{true}
 use mathlib.Core.List.{List, [], ◌∷◌}
 use mathlib.Core.Option.{Option, none, some, none-ne-some, some-injective}
@@ -13,7 +13,7 @@ use Rattle.state.specs.declared.DefunctLock.{DefunctLock}
 use Rattle.state.specs.Model.{Model}
 use Rattle.rules.specs.Rules.{find_a, find_d, rule9}
 use Rattle.rules.proofs.Ends.{Ends, done, step, ends_anywhere}
-use Rattle.lookups.specs.Reads.{Follows, holds, leads, passes, Held, held, walk, holder_of}
+use Rattle.lookups.specs.Reads.{Follows, holds, leads, passes, Held, walk, holder_of}
 use Rattle.lookups.proofs.Walk.{walk_held, walk_out, walk_on, ahead, ahead_le, ahead_on}
 
 -- ---- one way: from one id, by one holder

@@ -1,13 +1,12 @@
 -- No two answers of a read have one paper: from document 01's number and values the answer is read back. Assumes nothing.
 use mathlib.Core.Bool.{Bool, true, false}
-use mathlib.Core.List.{List, [], ◌∷◌}
+use mathlib.Core.List.{[], ◌∷◌}
 use mathlib.Core.Path.{◌≡◌, refl, ap, ◌∙◌}
 use Prim.Native.Nat.{ℕ, ◌+◌}
 use lib.Dec.{eqb}
 use Rattle.lists.specs.Papers.{Paper}
 use Rattle.lists.proofs.Papers.{pick, one_to_one, value_at}
 use Rattle.ids.specs.declared.LockId.{LockId}
-use Rattle.coverage.specs.declared.LockCoverage.{LockCoverage}
 use Rattle.state.specs.declared.ScopeKey.{ScopeKey}
 use Rattle.state.specs.declared.ScopeKey.TheVariants.{Vehicle, Ecu, FunctionalGroup}
 use Rattle.state.specs.declared.Lock.{Lock}
@@ -25,7 +24,6 @@ use Rattle.lookups.specs.declared.Truth.{Truth}
 use Rattle.lookups.specs.declared.Truth.TheVariants as truth
 use Rattle.lookups.specs.declared.Listed.{Listed}
 use Rattle.lookups.specs.declared.Listed.TheVariants as listed
-use Rattle.lookups.specs.declared.TesterPresent.{TesterPresent}
 use Rattle.lookups.specs.declared.TesterPresent.TheVariants as present
 use Rattle.lookups.specs.declared.Needed.{Needed}
 use Rattle.lookups.specs.declared.Needed.TheVariants as needed

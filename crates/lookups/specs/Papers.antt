@@ -21,7 +21,6 @@ use Rattle.lookups.specs.declared.Truth.{Truth}
 use Rattle.lookups.specs.declared.Truth.TheVariants as truth
 use Rattle.lookups.specs.declared.Listed.{Listed}
 use Rattle.lookups.specs.declared.Listed.TheVariants as listed
-use Rattle.lookups.specs.declared.TesterPresent.{TesterPresent}
 use Rattle.lookups.specs.declared.TesterPresent.TheVariants as present
 use Rattle.lookups.specs.declared.Needed.{Needed}
 use Rattle.lookups.specs.declared.Needed.TheVariants as needed

@@ -1,6 +1,6 @@
 -- The reads of source document 000. Each "first tests the state (12)"; "Reads that find 'a' lock answer the lowest id",
 -- which is the first one that fits, since the lists ascend.
-use Rattle.std.specs.Prelude.{Bool, true, false, cond, List, [], ◌∷◌, map, ◌≡◌, ℕ, zero, suc, eqb, ltb, length, get_or}
+use Rattle.std.specs.Prelude.{Bool, false, cond, List, [], ◌∷◌, map, ◌≡◌, ℕ, zero, suc, eqb, ltb, length, get_or}
 use Rattle.std.proofs.Math.Option.{Option, none, some}
 use Rattle.lists.specs.Tests.{◌and◌, ◌or◌, non}
 use Rattle.lists.specs.Lists.{find, any, filter}
@@ -27,7 +27,6 @@ use Rattle.lookups.specs.declared.Revision.{Revision}
 use Rattle.lookups.specs.declared.Revision.TheVariants as revision
 use Rattle.lookups.specs.declared.Truth.{Truth}
 use Rattle.lookups.specs.declared.Truth.TheVariants as truth
-use Rattle.lookups.specs.declared.Listed.{Listed}
 use Rattle.lookups.specs.declared.Listed.TheVariants as listed
 use Rattle.lookups.specs.declared.Narrow.{Narrow}
 use Rattle.lookups.specs.declared.TesterPresent.{TesterPresent}

@@ -6,7 +6,7 @@ use mathlib.Core.List.{List, [], ◌∷◌, ◌++◌, append_assoc}
 use Prim.Native.Nat.{ℕ, suc, ◌+◌, ◌-◌, ◌≤◌, ◌<◌}
 use native.Mathlib.Numerals.{add-one}
 use native.Mathlib.Omega.{arith}
-use lib.ListN.{length, get_or, set, take, drop, take-append-drop, length-append, length-take, length-drop}
+use lib.ListN.{length, get_or, set, take, drop, take-append-drop, length-append, length-drop}
 use lib.Seq.{append_snoc, take-length, take-suc-set, take-append-le, drop-append-le, drop-set-lt, drop-drop, drop_at, paste, paste-suc, length-take-le}
 use Rattle.lists.specs.Places.{splice}
 use Rattle.names.specs.Bytes.{keep1, kept}

@@ -1,14 +1,14 @@
 -- What a check answers, from what the functions that it calls answer; chains of checks, link by link.
 -- Assumes nothing.
-use mathlib.Core.Path.{◌≡◌, refl, sym, ap, ◌∙◌}
+use mathlib.Core.Path.{◌≡◌, sym, ap, ◌∙◌}
 use mathlib.Core.Bool.{Bool, true, false, not, cond, ◌&&◌, ◌||◌, true≢false, false≢true}
-use mathlib.Core.List.{List, [], ◌∷◌}
-use mathlib.Core.Option.{Option, none, some}
+use mathlib.Core.List.{List}
+use mathlib.Core.Option.{none, some}
 use Prim.Native.Nat.{ℕ}
 use lib.Dec.{eqb}
 use borrow.Author.Tests.{not-true, not-false, eq-eqb, ne_eqb}
-use Rattle.lists.specs.Tests.{◌and◌, ◌or◌, non, Yes}
-use Rattle.lists.specs.Lists.{any, find, filter}
+use Rattle.lists.specs.Tests.{◌or◌, non, Yes}
+use Rattle.lists.specs.Lists.{any, find}
 use Rattle.lists.proofs.Tests.{and_l, by, cond_true, cond_false, non_t, non_f, or_code, codes}
 use Rattle.ids.specs.Words.{odd_words}
 use Rattle.coverage.specs.declared.Spot.{Spot}

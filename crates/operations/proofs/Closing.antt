@@ -6,7 +6,7 @@ use mathlib.Core.Path.{◌≡◌, refl, sym, ap, ◌∙◌}
 use Prim.Native.Nat.{ℕ}
 use Rattle.lists.proofs.Tests.{same_test}
 use Rattle.state.specs.declared.LockState.{LockState}
-use Rattle.state.specs.Model.{Model, model_of, state_of, full}
+use Rattle.state.specs.Model.{Model, state_of, full}
 use Rattle.state.proofs.Laws.{model-of-state}
 use Rattle.rules.specs.declared.Verdict.{Verdict}
 use Rattle.rules.specs.declared.Verdict.TheVariants.{Sound, Broken}

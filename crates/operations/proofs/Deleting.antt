@@ -18,11 +18,9 @@ use Rattle.rules.specs.declared.Verdict.TheVariants.{Sound}
 use Rattle.rules.specs.Rules.{broken_rule}
 use Rattle.lookups.proofs.Verdicts.{on_sound_lem}
 use Rattle.operations.specs.declared.answers.Deletion.TheVariants as deletion
-use Rattle.operations.specs.declared.answers.Expiration.{Expiration}
 use Rattle.operations.specs.declared.answers.Expiration.TheVariants as expiration
-use Rattle.operations.specs.declared.answers.Expired.{Expired}
 use Rattle.operations.specs.declared.trees.Split.{Split}
-use Rattle.operations.specs.Trees.{Parts, start_parts, tree_parts}
+use Rattle.operations.specs.Trees.{start_parts, tree_parts}
 use Rattle.operations.specs.Checks.{at_last_lem}
 use Rattle.operations.specs.Code.{split_of}
 use Rattle.operations.specs.Delete.{without_tree, deleted, delete_found, delete_on, expired, as_expired, expire_found, begin_expiration_on}

@@ -1,21 +1,20 @@
 -- Marks beside a list: what they pick is what a test picks, one mark more, and a list that a loop changes place by place.
 -- Assumes nothing.
-use mathlib.Core.Bool.{Bool, true, false, cond, ◌&&◌, ◌||◌, true≢false, false≢true}
+use mathlib.Core.Bool.{Bool, true, false, cond, ◌||◌}
 use mathlib.Core.List.Memᴰ
 use mathlib.Core.List.{List, [], ◌∷◌, ◌++◌, map, append_assoc}
-use mathlib.Core.Option.{none, some}
 use mathlib.Core.Path.{◌≡◌, refl, sym, ap, subst, ◌∙◌}
-use Prim.Native.Nat.{ℕ, zero, suc, ◌+◌, ◌-◌, ◌≤◌, ◌<◌}
+use Prim.Native.Nat.{ℕ, suc, ◌+◌, ◌-◌, ◌≤◌, ◌<◌}
 use native.Mathlib.Numerals.{add-one}
 use native.Mathlib.Omega.{arith}
 use lib.ListN.{length, get_or, set, take, drop, replicate, length-append, length-take, length-drop, length-map}
 use native.Mathlib.Decide.{ℕ_discrete}
-use lib.Seq.{slice, slice_empty, drop-cons, set_at, get_or_at, take_at, length-take-le, get_or-set_same, get_or-set_other}
+use lib.Seq.{drop-cons, set_at, get_or_at, take_at, length-take-le, get_or-set_same, get_or-set_other}
 use Rattle.lists.specs.Tests.{◌or◌, Yes}
-use Rattle.lists.specs.Lists.{any, filter, find, Mem}
+use Rattle.lists.specs.Lists.{any, filter, Mem}
 use Rattle.lists.specs.Places.{in_places}
 use Rattle.lists.proofs.Tests.{or_code, or_comm, or_assoc}
-use Rattle.lists.proofs.Loops.{rest_step, more, map_more}
+use Rattle.lists.proofs.Loops.{more, map_more}
 use Rattle.operations.specs.Code.{flagged, unflagged, altered}
 
 -- one mark more is set

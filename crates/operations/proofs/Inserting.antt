@@ -8,7 +8,7 @@ use native.Mathlib.Omega.{arith}
 use lib.Dec.{eqb}
 use lib.ListN.{length, set, take}
 use borrow.Author.Tests.{eqb-true, eqb-false, le-leb, lt-leb, not-true, not-false}
-use Rattle.lists.specs.Tests.{◌and◌, non}
+use Rattle.lists.specs.Tests.{non}
 use Rattle.lists.specs.Lists.{any, filter, insert_by}
 use Rattle.lists.specs.Places.{in_places, opened}
 use Rattle.lists.proofs.Tests.{by, cond_true, cond_false, and_f, and_i, and_r, non_t, non_f}

@@ -16,7 +16,7 @@ use lib.ListN.{length, get_or, take, length-map}
 use lib.Seq.{ext_get_or, take-suc, take-length, length-take-le}
 use borrow.Author.Tests.{eqb-true, eq-eqb, ne_eqb, lt-ltb, le-ltb}
 use Rattle.lists.specs.Tests.{Yes}
-use Rattle.lists.specs.Lists.{find, Mem, ascending}
+use Rattle.lists.specs.Lists.{Mem, ascending}
 use Rattle.lists.proofs.Tests.{against, non_yes}
 use Rattle.lists.proofs.Lists.{find→, →any, find_none→, find_miss, find_cases, find_key}
 use Rattle.lists.proofs.Places.{mem_at, at_mem, ascending_yes}

@@ -1,7 +1,7 @@
 -- Defunct entries that go. The code lets every marked entry hand its target and holder on and takes the marked entries out
 -- at the end; in an ascending list that is the same as taking them out one after the other.
 -- Assumes nothing.
-use mathlib.Core.Bool.{Bool, true, false, cond, not, false≢true}
+use mathlib.Core.Bool.{Bool, true, false, cond}
 use mathlib.Core.List.{List, [], ◌∷◌, ◌++◌, map}
 use mathlib.Core.Option.{Option, none, some}
 use mathlib.Core.Path.{◌≡◌, refl, sym, ap, ◌∙◌}
@@ -11,10 +11,9 @@ use lib.Dec.{eqb}
 use native.Mathlib.Numerals.{add-one}
 use lib.ListN.{length, get_or, set, take, length-map}
 use lib.Seq.{take-suc, length-take-le, get_or-take}
-use borrow.Author.Tests.{eq-eqb, ne_eqb, eqb-true, eqb-false}
-use Rattle.lists.specs.Tests.{non, Yes}
-use Rattle.lists.specs.Lists.{any, filter, find, Mem, from, ascending}
-use Rattle.lists.specs.Places.{in_places}
+use borrow.Author.Tests.{eq-eqb, ne_eqb, eqb-true}
+use Rattle.lists.specs.Tests.{Yes}
+use Rattle.lists.specs.Lists.{any, filter, find, from, ascending}
 use Rattle.lists.proofs.Tests.{→no, non_t, non_f}
 use Rattle.lists.proofs.Lists.{any→, from→, rest, from_map, filter_le, find_agree, find→}
 use Rattle.lists.proofs.Places.{mem_at}

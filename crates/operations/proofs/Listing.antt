@@ -1,9 +1,9 @@
 -- Ids of a list against the active locks: what the check of one id says, and the lowest that is refused.
 -- Assumes nothing.
 use mathlib.Core.Path.{◌≡◌, refl, sym, ap, ◌∙◌}
-use mathlib.Core.Bool.{Bool, true, false, not, cond, ◌&&◌, ◌||◌}
-use mathlib.Core.List.{List, [], ◌∷◌}
-use mathlib.Core.Option.{Option, none, some}
+use mathlib.Core.Bool.{Bool, true, false, not, ◌&&◌, ◌||◌}
+use mathlib.Core.List.{List}
+use mathlib.Core.Option.{none, some}
 use Prim.Native.Nat.{ℕ, ◌+◌, ◌-◌, ◌≤◌, ◌<◌}
 use native.Mathlib.Omega.{arith}
 use lib.ListN.{length, get_or, take}
@@ -22,7 +22,7 @@ use Rattle.state.specs.declared.ActiveLock.{ActiveLock}
 use Rattle.state.specs.Locks.{is_vehicle, has_id}
 use Rattle.operations.specs.declared.answers.Answer.{Answer}
 use Rattle.operations.specs.declared.answers.Answer.TheVariants.{Done, ActiveLockNotFound, NotRootVehicle, BadChild}
-use Rattle.operations.specs.Answers.{is_done, refuse_if, and_then, first_refusal}
+use Rattle.operations.specs.Answers.{is_done, and_then, first_refusal}
 use Rattle.operations.specs.Checks.{check_root, missing, check_active, settled_lock, check_free, check_listed}
 use Rattle.operations.specs.Code.{check_named}
 use Rattle.operations.proofs.Chains.{refuse, go_on}

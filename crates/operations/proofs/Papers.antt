@@ -1,6 +1,6 @@
 -- No two answers have one paper: from document 01's number and values the answer is read back.
 -- Assumes nothing.
-use mathlib.Core.List.{List, [], ◌∷◌}
+use mathlib.Core.List.{[], ◌∷◌}
 use mathlib.Core.Path.{◌≡◌, refl}
 use Prim.Native.Nat.{ℕ, suc}
 use Rattle.coverage.specs.declared.Spot.{Spot}

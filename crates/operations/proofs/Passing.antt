@@ -10,7 +10,7 @@ use lib.Dec.{leb}
 use lib.ListN.{length, get_or, set, take, drop, replicate, length-set, length-append, length-replicate, length-map, get_or-append, replicate-append-replicate}
 use lib.Seq.{drop_at, take_at, get_or_at, take-length, drop-append-add, drop-drop, length-take-le}
 use borrow.Author.Tests.{leb-true}
-use Rattle.lists.specs.Tests.{◌and◌, Yes}
+use Rattle.lists.specs.Tests.{Yes}
 use Rattle.lists.specs.Lists.{from, ascending}
 use Rattle.lists.specs.Places.{in_places}
 use Rattle.lists.proofs.Tests.{and_l, and_i}

@@ -8,7 +8,7 @@ use native.Mathlib.Omega.{arith}
 use lib.Dec.{eqb, ltb, leb}
 use lib.ListN.{length, get_or, take, replicate, length-map}
 use borrow.Author.Tests.{eqb-true, eqb-false, ltb-true, ltb-false, le-leb, lt-leb}
-use Rattle.lists.specs.Tests.{◌and◌, ◌or◌, non, Yes}
+use Rattle.lists.specs.Tests.{◌or◌, non, Yes}
 use Rattle.lists.specs.Lists.{any, filter, insert_by, ascending}
 use Rattle.lists.specs.Places.{in_places}
 use Rattle.lists.proofs.Tests.{by as cases, and_f, and_t, non_t, non_f, or_t, or_f, or_no, or_code, codes, cond_true, cond_false}

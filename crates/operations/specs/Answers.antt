@@ -1,6 +1,5 @@
 -- The answers: for each case document 01's number and values ("Numbers of the answers"), and chains of checks.
 use Rattle.std.specs.Prelude.{Bool, true, false, cond, List, [], ◌∷◌, ℕ}
-use Rattle.ids.specs.declared.LockId.{LockId}
 use Rattle.coverage.specs.declared.Spot.{Spot}
 use Rattle.coverage.specs.declared.Spot.TheVariants.{NoEcu, Ecu}
 use Rattle.lists.specs.Papers.{Paper, paper}

@@ -3,7 +3,7 @@
 --     active, defunct   the active locks and the defunct entries
 --     new               the lock that is put in
 --     ids               an id list's words
-use Rattle.std.specs.Prelude.{Bool, true, false, cond, List, ℕ, eqb}
+use Rattle.std.specs.Prelude.{Bool, true, false, List, ℕ, eqb}
 use Rattle.std.proofs.Math.Option.{Option, none, some}
 use Rattle.lists.specs.Tests.{◌and◌, ◌or◌, non}
 use Rattle.lists.specs.Lists.{any, find}

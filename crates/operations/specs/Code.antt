@@ -4,7 +4,7 @@
 -- parts of a replacement and of an expiry.
 use Rattle.std.specs.Prelude.{Bool, true, false, cond, List, [], ◌∷◌, ◌++◌, map, ◌≡◌, ℕ, zero, suc, ◌+◌, ◌*◌, ◌≤◌, ◌<◌, eqb, ltb, length, get_or, take}
 use Rattle.std.proofs.Math.Option.{Option, none, some}
-use Rattle.lists.specs.Tests.{◌or◌, non, Yes}
+use Rattle.lists.specs.Tests.{non, Yes}
 use Rattle.lists.specs.Lists.{any, filter, Mem, ascending, insert_by}
 use Rattle.lists.specs.Places.{in_places, leading}
 use Rattle.ids.specs.declared.LockId.{LockId}

@@ -1,5 +1,5 @@
 -- Defunct entries that go and that come.
-use Rattle.std.specs.Prelude.{Bool, true, false, cond, List, [], ◌∷◌, map, ℕ, eqb}
+use Rattle.std.specs.Prelude.{Bool, cond, List, [], ◌∷◌, map, ℕ, eqb}
 use Rattle.std.proofs.Math.Option.{Option, none, some}
 use Rattle.lists.specs.Tests.{◌and◌, non}
 use Rattle.lists.specs.Lists.{find, filter, insert_by}

@@ -1,5 +1,5 @@
 -- delete: 12, 3, 8. begin_expiration: 12, "absent gives Stale, expires > now gives NotDue with the time, else as delete".
-use Rattle.std.specs.Prelude.{Bool, cond, List, [], ℕ, ◌+◌, ltb, length}
+use Rattle.std.specs.Prelude.{cond, List, [], ℕ, ◌+◌, ltb, length}
 use Rattle.std.proofs.Math.Option.{Option, none, some}
 use Rattle.lists.specs.Lists.{find}
 use Rattle.lists.specs.Places.{in_places}

@@ -1,5 +1,5 @@
 -- insert_active: "1, 2, 4, 5, 11.3, 11.4, 7, 8, 13."
-use Rattle.std.specs.Prelude.{Bool, cond, List, ℕ, ◌+◌}
+use Rattle.std.specs.Prelude.{cond, ◌+◌}
 use Rattle.lists.specs.Lists.{insert_by}
 use Rattle.state.specs.declared.ActiveLock.{ActiveLock}
 use Rattle.state.specs.declared.LockState.{LockState}

@@ -1,5 +1,5 @@
 -- renew: 12, 3, 9 (expires <= now), 10 (new <= old), 8. "Metadata changes only if given."
-use Rattle.std.specs.Prelude.{Bool, cond, List, map, ℕ, ◌+◌, leb}
+use Rattle.std.specs.Prelude.{Bool, cond, map, ℕ, ◌+◌, leb}
 use Rattle.std.proofs.Math.Option.{Option, none, some}
 use Rattle.lists.specs.Lists.{find}
 use Rattle.ids.specs.declared.LockId.{LockId}

@@ -2,7 +2,7 @@
 -- ascending, each tree removed from what then remains and entered as defunct ..; then the insertion's 2, 4, 5, 11.3, 11.4,
 -- 7; then, for a vehicle, every other active parentless lock of its subject becomes its child; 8; lowest child with 11.4;
 -- 13. Entries erased again by the insertion are still returned as removed."
-use Rattle.std.specs.Prelude.{Bool, true, false, cond, List, [], map, ℕ, ◌+◌, eqb, length}
+use Rattle.std.specs.Prelude.{Bool, cond, List, [], map, ℕ, ◌+◌, eqb, length}
 use Rattle.lists.specs.Tests.{◌and◌, non}
 use Rattle.lists.specs.Lists.{filter, insert_by}
 use Rattle.lists.specs.Places.{in_places}

@@ -1,6 +1,6 @@
 -- Trees of active locks that are removed. Document 01, `delete`: "The tree removed and listed: children ascending; for a
 -- group, the same subject's ECU locks whose scope ECU it covers, ascending; the root."
-use Rattle.std.specs.Prelude.{Bool, true, false, cond, List, [], ◌∷◌, ◌++◌, ℕ, eqb}
+use Rattle.std.specs.Prelude.{Bool, cond, List, [], ◌∷◌, ◌++◌, ℕ, eqb}
 use Rattle.lists.specs.Tests.{◌and◌, ◌or◌, non}
 use Rattle.lists.specs.Lists.{any, filter}
 use Rattle.ids.specs.Order.{key}

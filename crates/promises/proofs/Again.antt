@@ -10,7 +10,7 @@ use mathlib.Core.Bool.{Bool, true}
 use mathlib.Core.List.{List, [], ◌∷◌}
 use Prim.Native.Nat.{ℕ}
 use lib.Dec.{eqb}
-use Rattle.lists.specs.Tests.{◌and◌, Yes}
+use Rattle.lists.specs.Tests.{Yes}
 use Rattle.lists.specs.Lists.{all}
 use Rattle.lists.proofs.Tests.{and_i}
 use Rattle.ids.specs.declared.LockId.{LockId}

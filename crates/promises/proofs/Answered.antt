@@ -6,7 +6,6 @@ use mathlib.Core.Bool.{Bool, true, false, cond}
 use mathlib.Core.List.{List, [], ◌∷◌}
 use mathlib.Core.Option.{Option, none, some}
 use Prim.Native.Nat.{ℕ}
-use lib.Dec.{eqb}
 use Rattle.lists.specs.Tests.{Yes, No}
 use Rattle.lists.specs.Lists.{find, filter}
 use Rattle.lists.proofs.Tests.{against, cond_both}

@@ -2,33 +2,32 @@
 -- operation makes locks in four ways only: it takes a new one in, gives one a parent, renews one, enters one as broken and
 -- redirects an entry. Where P and Q are kept by these, they are kept by the operation. Assumes nothing.
 use mathlib.Core.Path.{◌≡◌, refl, sym, subst}
-use mathlib.Core.Bool.{Bool, cond}
+use mathlib.Core.Bool.{Bool}
 use mathlib.Core.List.Memᴰ
 use mathlib.Core.List.{List, [], ◌∷◌, map, Memᴰ}
 use mathlib.Core.Option.{Option, none, some}
-use mathlib.Core.Logic.{◌⊎◌, inl, inr}
+use mathlib.Core.Logic.{inl, inr}
 use Prim.Native.Nat.{ℕ}
 use Rattle.lists.specs.Tests.{non, Yes}
-use Rattle.lists.specs.Lists.{Mem, any, find, filter, insert_by}
+use Rattle.lists.specs.Lists.{Mem, find, filter, insert_by}
 use Rattle.lists.proofs.Tests.{cond_both}
 use Rattle.lists.proofs.Lists.{filter→, find→, insert→}
 use Rattle.ids.specs.declared.LockId.{LockId}
 use Rattle.state.specs.declared.ActiveLock.{ActiveLock}
 use Rattle.state.specs.declared.DefunctLock.{DefunctLock}
-use Rattle.state.specs.Locks.{akey, dkey, has_id, has_id_d, normal}
+use Rattle.state.specs.Locks.{akey, dkey, has_id, has_id_d}
 use Rattle.state.specs.Model.{Model, Limits}
 use Rattle.rules.specs.Rules.{sound}
-use Rattle.operations.specs.Answers.{is_done}
 use Rattle.operations.specs.Defuncts.{redirect, other, drop_found, remove_d, remove_all, superseded, supersede, to_defunct, enter_all}
-use Rattle.operations.specs.Trees.{Parts, start_parts, tree_parts, in_tree, is_listed}
+use Rattle.operations.specs.Trees.{start_parts, in_tree, is_listed}
 use Rattle.operations.specs.Insert.{inserted_in}
 use Rattle.operations.specs.Vehicle.{nest, adopt, vehicle_in}
 use Rattle.operations.specs.Renew.{extended, extend_at, renewed_in}
 use Rattle.operations.specs.Delete.{without_tree}
 use Rattle.operations.specs.Replace.{orphan, cut_of, entered_of, replaced_in}
-use Rattle.operations.specs.Acknowledge.{shed_in, lapsed, lapsed_of}
+use Rattle.operations.specs.Acknowledge.{shed_in}
 use Rattle.promises.proofs.Core.{stands_of}
-use Rattle.promises.proofs.Removal.{tree_kept, Split, cut_roots}
+use Rattle.promises.proofs.Removal.{tree_kept, cut_roots}
 
 pub record Held (P : ActiveLock → Type 0) (Q : DefunctLock → Type 0) (m : Model) : Type 0 where
   pub active : (a : ActiveLock) → Mem a m.active → P a

@@ -9,9 +9,9 @@ use mathlib.Core.Logic.{inl, inr}
 use Prim.Native.Nat.{ℕ}
 use lib.Dec.{eqb}
 use borrow.Author.Tests.{eq-eqb, eqb-true}
-use Rattle.lists.specs.Tests.{◌and◌, ◌or◌, non, Yes, No}
+use Rattle.lists.specs.Tests.{◌and◌, non, Yes, No}
 use Rattle.lists.specs.Lists.{find, filter, Mem}
-use Rattle.lists.proofs.Tests.{against, →no, and_i, or_no, and_no, cond_true, cond_both}
+use Rattle.lists.proofs.Tests.{against, →no, and_i, or_no, cond_true, cond_both}
 use Rattle.lists.proofs.Lists.{any→, →any, →filter, find→, find_none→, find_cases}
 use Rattle.ids.specs.declared.LockId.{LockId}
 use Rattle.ids.specs.Order.{key, same_id, before_id}

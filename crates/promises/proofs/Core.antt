@@ -10,7 +10,7 @@ use mathlib.Core.Logic.{inl, inr}
 use Prim.Native.Nat.{ℕ}
 use lib.Dec.{eqb}
 use borrow.Author.Tests.{eq-eqb, eqb-true}
-use Rattle.lists.specs.Tests.{◌and◌, ◌imp◌, Yes, No}
+use Rattle.lists.specs.Tests.{◌imp◌, Yes, No}
 use Rattle.lists.specs.Lists.{all, Mem, ascending}
 use Rattle.lists.proofs.Tests.{against, →no, non_yes, yes_non, and_l, and_r, and_i, imp_e, imp_i}
 use Rattle.lists.proofs.Lists.{all→, →all, any→, →any, find→, find_cases, find_key}

@@ -12,7 +12,7 @@ use native.Mathlib.Omega.{arith}
 use native.Mathlib.Decide.{ℕ_discrete}
 use lib.Dec.{eqb}
 use borrow.Author.Tests.{eq-eqb, ne_eqb, eqb-true}
-use Rattle.lists.specs.Tests.{◌and◌, ◌or◌, non, Yes, No}
+use Rattle.lists.specs.Tests.{non, Yes, No}
 use Rattle.lists.specs.Lists.{filter, Mem, insert_by}
 use Rattle.lists.proofs.Tests.{against, →no, non_yes, and_l, and_r, and_i, or_l, and_comm, cond_both, same_test}
 use Rattle.lists.proofs.Lists.{filter→, →filter, find→, find_hit, find_miss, find_insert, from_filter, from_map, from_insert, insert→, insert_new, insert_old}

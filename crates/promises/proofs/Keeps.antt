@@ -9,7 +9,7 @@ use Prim.Native.Nat.{ℕ, ◌+◌, ◌≤◌}
 use native.Mathlib.Omega.{arith}
 use lib.ListN.{length, length-map}
 use borrow.Author.Tests.{eq-eqb, leb-true, le-leb}
-use Rattle.lists.specs.Tests.{◌and◌, non, Yes, No}
+use Rattle.lists.specs.Tests.{non, Yes, No}
 use Rattle.lists.specs.Lists.{Mem, Fresh, insert_by}
 use Rattle.lists.proofs.Tests.{against, →no, non_yes, and_l, and_r, and_i, cond_both, cond_false}
 use Rattle.lists.proofs.Lists.{insert→, insert_new, filter_le}

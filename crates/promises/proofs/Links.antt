@@ -2,13 +2,12 @@
 -- entries it passed, which are the only ones that can be followed from the record, at most as many as there are, and for a
 -- stored record one less. Assumes nothing.
 use mathlib.Core.Path.{◌≡◌}
-use mathlib.Core.Bool.{true}
 use mathlib.Core.List.{List}
 use Prim.Native.Nat.{ℕ, suc, ◌≤◌, ◌<◌}
 use native.Mathlib.Omega.{arith}
 use lib.ListN.{length}
 use borrow.Author.Tests.{leb-true}
-use Rattle.lists.specs.Tests.{◌and◌, Yes}
+use Rattle.lists.specs.Tests.{Yes}
 use Rattle.lists.specs.Lists.{Mem}
 use Rattle.lists.proofs.Tests.{and_r}
 use Rattle.ids.specs.Order.{key}

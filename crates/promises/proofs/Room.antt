@@ -9,7 +9,7 @@ use Prim.Native.Nat.{ℕ, ◌≤◌}
 use native.Mathlib.Omega.{arith}
 use lib.ListN.{length, length-map}
 use borrow.Author.Tests.{le-leb, leb-true}
-use Rattle.lists.specs.Tests.{◌and◌, non, Yes, No}
+use Rattle.lists.specs.Tests.{non, Yes, No}
 use Rattle.lists.proofs.Tests.{and_i, and_l, and_r, by, →no, non_t, non_f, cond_true, cond_false, cond_both}
 use Rattle.lists.proofs.Lists.{length_insert}
 use Rattle.state.specs.declared.ActiveLock.{ActiveLock}

@@ -1,14 +1,13 @@
 -- What the writer's code shows of specs/Sending.antt. Assumes nothing.
 use mathlib.Core.Path.{◌≡◌, refl, sym, ap, ap₂, ◌∙◌, subst}
-use mathlib.Core.Bool.{Bool, true, false, not, cond}
+use mathlib.Core.Bool.{Bool, true, false, not}
 use mathlib.Core.List.{List, [], ◌∷◌, ◌++◌, append_assoc, append-nil}
-use Prim.Native.Nat.{ℕ, ◌+◌, ◌-◌, ◌*◌, ◌/◌, ◌^◌, ◌≤◌, ◌<◌}
+use Prim.Native.Nat.{ℕ, ◌+◌, ◌-◌, ◌*◌, ◌^◌, ◌≤◌, ◌<◌}
 use native.Mathlib.Nat.{zero-add}
 use native.Mathlib.Omega.{arith}
 use lib.ListN.{length, take, drop, length-append}
 use lib.Seq.{drop-length, length-take-le}
 use borrow.Author.Tests.{lt-ltb, le-ltb, le-leb, not-true, not-false}
-use Rattle.lists.specs.Tests.{◌and◌}
 use Rattle.lists.proofs.Tests.{cond_true, cond_false, cond_both, against}
 use Rattle.ids.specs.Words.{odd_words}
 use Rattle.records.specs.declared.requests.ReplaceRequest.{ReplaceRequest}

@@ -1,17 +1,17 @@
 -- Rule 8 by place: two locks that clash, and the set that all non-vehicle locks so far are in. Assumes nothing.
 use mathlib.Core.Path.{◌≡◌, refl, sym, ap, ◌∙◌, subst}
-use mathlib.Core.Bool.{Bool, true, false, cond, not, ◌&&◌, ◌||◌, true≢false, false≢true}
+use mathlib.Core.Bool.{Bool, true, false, cond, not, ◌&&◌, ◌||◌, false≢true}
 use mathlib.Core.List.{List}
-use Prim.Native.Nat.{ℕ, zero, suc, ◌+◌, ◌/◌, ◌%◌, ◌≤◌, ◌<◌}
+use Prim.Native.Nat.{ℕ, zero, suc, ◌+◌, ◌/◌, ◌%◌, ◌<◌}
 use native.Mathlib.Omega.{arith}
 use native.Mathlib.Decide.{ℕ_discrete}
-use borrow.Author.Tests.{eq-eqb, ne_eqb, eqb-true, eqb-false}
+use borrow.Author.Tests.{eq-eqb, eqb-true}
 use lib.Dec.{eqb}
 use lib.Bits.{bit_or}
 use lib.ListN.{get_or}
 use Rattle.lists.specs.Tests.{◌and◌, ◌or◌, ◌imp◌, non}
 use Rattle.lists.specs.Below.{all_below, any_below}
-use Rattle.lists.proofs.Tests.{and_l, and_r, and_i, and_f, or_e, or_l, or_r, imp_e, imp_i, imp_refl, by, →no, against, non_t, non_f, non_yes, or_code, codes}
+use Rattle.lists.proofs.Tests.{and_l, and_r, and_i, and_f, or_l, or_r, imp_e, imp_i, →no, against, non_t, non_f, or_code, codes}
 use Rattle.lists.proofs.Below.{all_of, all_at, any_of, any_at}
 use Rattle.bits.specs.Bits.{bit_at}
 use Rattle.bits.proofs.Bits.{or_bit}

@@ -14,7 +14,7 @@ use lib.Dec.{eqb}
 use borrow.Author.Tests.{eqb-true}
 use Rattle.lists.specs.Tests.{◌and◌, non, Yes, No}
 use Rattle.lists.proofs.Tests.{against, →no, non_yes, yes_non, and_i, and_r}
-use Rattle.lists.specs.Lists.{all, any, find, Mem, Fresh}
+use Rattle.lists.specs.Lists.{any, Mem, Fresh}
 use Rattle.lists.proofs.Lists.{all→, →all, any→, →any, find→, find_none→, find_cases, find_miss, pigeon}
 use Rattle.state.specs.Model.{Model}
 use Rattle.ids.specs.Order.{key}

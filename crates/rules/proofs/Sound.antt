@@ -1,15 +1,14 @@
 -- A sound state: what the test's answer says of the state and of its lists, rule by rule, and back.
 -- Assumes nothing.
-use mathlib.Core.Path.{◌≡◌, refl, sym, ap, ◌∙◌, subst}
+use mathlib.Core.Path.{◌≡◌, refl, ap}
 use mathlib.Core.Bool.{Bool, true, false, false≢true}
-use mathlib.Core.List.{List, [], ◌∷◌, ◌++◌}
-use Prim.Native.Nat.{ℕ, zero, suc, ◌-◌, ◌≤◌}
+use mathlib.Core.List.{List, [], ◌∷◌}
+use Prim.Native.Nat.{ℕ, zero, suc, ◌-◌}
 use native.Mathlib.Omega.{arith}
-use lib.Dec.{leb}
 use lib.ListN.{length, take, drop, replicate, length-take}
 use lib.Seq.{drop_at}
 use borrow.Author.Tests.{leb-true, le-leb}
-use Rattle.lists.specs.Tests.{◌and◌, non, Yes}
+use Rattle.lists.specs.Tests.{◌and◌, non}
 use Rattle.lists.specs.Lists.{all}
 use Rattle.lists.specs.Places.{in_places}
 use Rattle.lists.proofs.Tests.{and_l, and_r, and_i}

@@ -13,7 +13,7 @@ use Rattle.state.specs.declared.ActiveLock.{ActiveLock}
 use Rattle.state.specs.declared.DefunctLock.{DefunctLock}
 use Rattle.state.specs.declared.LockState.{LockState}
 use Rattle.state.specs.Locks.{akey, dkey, is_vehicle, same_scope}
-use Rattle.state.specs.Model.{Model, model_of, Limits, full, fits}
+use Rattle.state.specs.Model.{Model, model_of, Limits, fits}
 use Rattle.rules.specs.declared.Verdict.{Verdict}
 use Rattle.rules.specs.declared.Verdict.TheVariants.{Sound, Broken}
 

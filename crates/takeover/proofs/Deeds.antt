@@ -17,7 +17,7 @@ use Rattle.promises.proofs.Every.{empty_sound}
 use Rattle.image.specs.declared.Spare.{Spare}
 use Rattle.image.specs.declared.Reading.TheVariants as reading
 use Rattle.image.specs.Image.{no_spare, read_on}
-use Rattle.image.proofs.Trips.{Accepted, accepted}
+use Rattle.image.proofs.Trips.{accepted}
 use Rattle.takeover.specs.Deeds.{Deed, operation, delete_defunct, feeding, deed_on, met}
 use Rattle.takeover.proofs.Keeping.{step_keeps}
 

@@ -21,7 +21,7 @@ use Rattle.promises.proofs.Every.{empty_sound}
 use Rattle.image.specs.declared.Spare.{Spare}
 use Rattle.image.specs.declared.Reading.TheVariants as reading
 use Rattle.image.specs.Image.{no_spare, read_on}
-use Rattle.image.proofs.Trips.{Accepted, accepted}
+use Rattle.image.proofs.Trips.{accepted}
 use Rattle.calls.specs.Calls.{perform_on}
 use Rattle.feed.specs.declared.events.Step.{Step}
 use Rattle.feed.specs.declared.taking.Taken.{Taken}

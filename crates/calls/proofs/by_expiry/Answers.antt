@@ -1,4 +1,3 @@
-use mathlib.Core.Path.{◌∙◌}
 use Rattle.state.specs.Locks.{blank_active}
 use Rattle.calls.proofs.by_expiry.Goals as goal
 

@@ -1,6 +1,3 @@
-use mathlib.Core.Path.{◌≡◌}
-use mathlib.Core.Bool.{false}
-use Prim.Native.Nat.{◌≤◌, ◌<◌, ◌-◌}
 use borrow.Author.Count.{below_none, below_more}
 use Rattle.names.proofs.Bytes.{not_folded, all_folded, small}
 use borrow.Author.Rules.{rules}

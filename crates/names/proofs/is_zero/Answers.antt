@@ -1,5 +1,3 @@
-use mathlib.Core.Path.{◌≡◌}
-use Prim.Native.Nat.{◌≤◌, ◌<◌, ◌-◌}
 use borrow.Author.Count.{below_more}
 use Rattle.names.proofs.Bytes.{not_zero, all_zero}
 use borrow.Author.Rules.{rules}

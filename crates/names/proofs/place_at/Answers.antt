@@ -1,6 +1,5 @@
 use Rattle.names.proofs.Chain.{no_place, past_place, found}
 use Rattle.names.proofs.Right.{right_size, right_count}
-use Prim.Native.Nat.{◌+◌, ◌*◌}
 use mathlib.Core.Path.{sym, ◌∙◌}
 use native.Mathlib.Omega.{arith}
 use Rattle.names.specs.Table.{entry_start}

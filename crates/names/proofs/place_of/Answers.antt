@@ -1,5 +1,3 @@
-use mathlib.Core.Path.{◌≡◌}
-use Prim.Native.Nat.{◌≤◌, ◌+◌, ◌-◌}
 use native.Mathlib.Omega.{arith}
 use Rattle.names.proofs.Entries.{entry_long, short_at}
 use Rattle.names.proofs.Lists.{search_starts, found_there, not_there, nowhere}

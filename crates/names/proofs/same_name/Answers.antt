@@ -1,5 +1,4 @@
-use mathlib.Core.Path.{◌≡◌, ◌∙◌}
-use Prim.Native.Nat.{◌≤◌, ◌<◌, ◌-◌}
+use mathlib.Core.Path.{◌∙◌}
 use borrow.Author.Count.{below_more}
 use Rattle.names.proofs.Bytes.{other_length, other_byte, same_bytes_lem}
 use borrow.Author.Rules.{rules}

@@ -1,11 +1,10 @@
 use mathlib.Core.Path.{◌≡◌, refl, sym, ◌∙◌}
 use mathlib.Core.Bool.{true, false}
-use Prim.Native.Nat.{ℕ, ◌-◌, ◌*◌, ◌≤◌, ◌<◌}
+use Prim.Native.Nat.{ℕ, ◌*◌, ◌≤◌, ◌<◌}
 use native.Mathlib.Omega.{arith}
 use borrow.Author.Rules.{rules}
 use borrow.Author.Count.{below_more}
 use lib.ListN.{length, get_or, drop}
-use Rattle.lists.specs.Tests.{◌and◌}
 use Rattle.lists.specs.Lists.{all, ascending}
 use Rattle.lists.proofs.Tests.{and_t, and_f, and_i}
 use Rattle.lists.proofs.Places.{first_all, first_not}

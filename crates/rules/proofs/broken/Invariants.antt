@@ -1,8 +1,7 @@
-use mathlib.Core.Path.{◌≡◌, ◌∙◌}
+use mathlib.Core.Path.{◌≡◌}
 use mathlib.Core.Bool.{true}
-use Prim.Native.Nat.{ℕ, ◌-◌, ◌*◌, ◌≤◌, ◌<◌}
+use Prim.Native.Nat.{ℕ, ◌-◌, ◌≤◌, ◌<◌}
 use lib.ListN.{get_or}
-use Rattle.lists.specs.Tests.{◌and◌}
 use Rattle.state.specs.Locks.{blank_active, blank_defunct}
 use Rattle.rules.specs.Rules.{is_blank_a, is_blank_d, neat_a, neat_d}
 use Rattle.rules.proofs.Blanks.{Swept}

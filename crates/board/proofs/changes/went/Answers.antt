@@ -1,4 +1,4 @@
-use Rattle.std.proofs.Common.{◌≡◌, ℕ, ◌-◌, ◌≤◌, List, length, take, ap, ◌∙◌, arith, rules}
+use Rattle.std.proofs.Common.{◌≡◌, ℕ, ◌≤◌, List, length, take, ap, ◌∙◌, arith, rules}
 use Rattle.lists.specs.Tests.{◌or◌}
 use Rattle.lists.specs.Lists.{any}
 use Rattle.lists.proofs.Loops.{length_of_mapped}

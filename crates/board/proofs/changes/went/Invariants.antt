@@ -1,4 +1,4 @@
-use Rattle.std.proofs.Common.{◌≡◌, ◌-◌, ◌≤◌, take, ◌∙◌}
+use Rattle.std.proofs.Common.{◌-◌, ◌≤◌, take}
 use Rattle.lists.specs.Tests.{◌or◌}
 use Rattle.lists.specs.Lists.{any}
 use Rattle.coverage.specs.Coverage.{covers}

@@ -1,4 +1,4 @@
-use Rattle.std.proofs.Common.{◌-◌, ◌/◌, ◌^◌, ◌<◌, ◌≤◌, get_or, arith, rules}
+use Rattle.std.proofs.Common.{◌/◌, ◌^◌, ◌<◌, get_or, arith, rules}
 use Rattle.board.proofs.Covering.{words_of, near, next_whole, next_end, next_hit, next_word, word_size}
 use Rattle.board.proofs.ecus.next_from.Goals as goal
 use Rattle.board.proofs.ecus.next_from.Goals.{In-loop-at}

@@ -1,4 +1,4 @@
-use Rattle.std.proofs.Common.{ℕ, ◌-◌, ◌/◌, ◌^◌, ◌<◌, ◌≤◌}
+use Rattle.std.proofs.Common.{ℕ, ◌-◌, ◌<◌, ◌≤◌}
 use Rattle.lists.specs.Tests.{No}
 use Rattle.board.proofs.Covering.{set_in}
 use Rattle.board.proofs.ecus.next_from.Given as goal

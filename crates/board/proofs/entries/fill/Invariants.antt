@@ -1,4 +1,4 @@
-use Rattle.std.proofs.Common.{◌≡◌, ◌-◌, take, ◌∙◌}
+use Rattle.std.proofs.Common.{take}
 use Rattle.board.proofs.Filling.{Filling}
 use Rattle.board.proofs.entries.fill.Given as goal
 

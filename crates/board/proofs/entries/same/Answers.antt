@@ -1,4 +1,4 @@
-use Rattle.std.proofs.Common.{◌≡◌, ◌-◌, ◌≤◌, refl, arith}
+use Rattle.std.proofs.Common.{refl, arith}
 use Rattle.names.specs.Bytes.{same_bytes}
 use Rattle.board.proofs.Filling.{same_turns, same_ends}
 use Rattle.board.proofs.entries.same.Goals as goal

@@ -1,4 +1,4 @@
-use Rattle.std.proofs.Common.{◌-◌, sym, ◌∙◌, arith}
+use Rattle.std.proofs.Common.{sym, ◌∙◌, arith}
 use Rattle.coverage.specs.Coverage.{covers}
 use Rattle.board.proofs.Filling.{turning_starts, turning_turns, turning_ends}
 use Rattle.board.proofs.entries.touch.Goals as goal

@@ -1,4 +1,4 @@
-use Rattle.std.proofs.Common.{◌-◌, ◌∙◌}
+use Rattle.std.proofs.Common.{◌-◌}
 use Rattle.coverage.specs.Coverage.{covers}
 use Rattle.board.proofs.Filling.{Turning}
 use Rattle.board.proofs.entries.touch.Given as goal

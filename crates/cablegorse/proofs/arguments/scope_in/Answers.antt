@@ -1,4 +1,3 @@
-use mathlib.Core.Path.{◌≡◌, ◌∙◌}
 use native.Mathlib.Omega.{arith}
 use Rattle.cablegorse.proofs.Ranges.{both_in, scope_out, scope_wrong, scope_there}
 use Rattle.cablegorse.proofs.arguments.scope_in.Goals as goal

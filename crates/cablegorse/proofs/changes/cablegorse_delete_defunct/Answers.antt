@@ -1,4 +1,4 @@
-use mathlib.Core.Path.{◌≡◌, sym, ap, ◌∙◌}
+use mathlib.Core.Path.{sym, ap, ◌∙◌}
 use Rattle.locks.specs.declared.Dropped.{Dropped}
 use Rattle.locks.specs.Locks.{delete_defunct_on}
 use Rattle.records.specs.Wire.{id}

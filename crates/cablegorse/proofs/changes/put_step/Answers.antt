@@ -1,8 +1,5 @@
-use Rattle.state.specs.contracts.ActiveLock as A
-use Rattle.ids.specs.contracts.LockId as I
-use mathlib.Core.Path.{◌≡◌, ◌∙◌}
+use mathlib.Core.Path.{◌∙◌}
 use native.Mathlib.Omega.{arith}
-use Rattle.lists.proofs.Loops.{length_of_mapped}
 use Rattle.image.proofs.Stores.{Capped, capped}
 use Rattle.cablegorse.proofs.Outputs.{shown_unsound, shown_put, not_applied, some_short, all_put}
 use Rattle.cablegorse.proofs.changes.put_step.Goals as goal

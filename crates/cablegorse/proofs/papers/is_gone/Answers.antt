@@ -1,5 +1,5 @@
 use Rattle.cablegorse.specs.Changes.{is_gone}
-use mathlib.Core.Path.{sym, ap, ◌∙◌}
+use mathlib.Core.Path.{sym, ap}
 use borrow.Author.Rules.{rules}
 use Rattle.cablegorse.proofs.papers.is_gone.Goals as goal
 

@@ -1,5 +1,5 @@
 use Rattle.cablegorse.specs.Telling.{class_number}
-use mathlib.Core.Path.{sym, ap, ◌∙◌}
+use mathlib.Core.Path.{sym, ap}
 use borrow.Author.Rules.{rules}
 use Rattle.cablegorse.proofs.papers.of_response.Goals as goal
 

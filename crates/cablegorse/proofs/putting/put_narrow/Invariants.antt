@@ -1,5 +1,4 @@
-use mathlib.Core.Path.{◌≡◌, ◌∙◌}
-use Prim.Native.Nat.{◌-◌, ◌*◌}
+use Prim.Native.Nat.{◌-◌}
 use Rattle.records.specs.Wire.{id_bytes}
 use Rattle.records.proofs.Runs.{Put, length_id}
 use Rattle.cablegorse.proofs.putting.put_narrow.Given as goal

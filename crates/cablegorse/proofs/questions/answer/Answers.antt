@@ -1,4 +1,4 @@
-use mathlib.Core.Path.{◌≡◌, sym, ap, ◌∙◌}
+use mathlib.Core.Path.{sym, ap, ◌∙◌}
 use Prim.Native.Nat.{ℕ}
 use Rattle.cablegorse.specs.Questions.{plain_reply, revision_reply, active_reply, defunct_reply, owner_reply, truth_reply, reply_on}
 use Rattle.cablegorse.proofs.Asking.{unknown}

@@ -1,4 +1,4 @@
-use mathlib.Core.Path.{◌≡◌, sym, ap, ◌∙◌}
+use mathlib.Core.Path.{sym, ap, ◌∙◌}
 use Rattle.lookups.specs.Reads.{current_holder_on}
 use Rattle.cablegorse.specs.Questions.{on_entry, holder_reply, holder_asked}
 use Rattle.cablegorse.proofs.questions.ask_holder.Goals as goal

@@ -1,4 +1,4 @@
-use mathlib.Core.Path.{◌≡◌, sym, ap, ◌∙◌}
+use mathlib.Core.Path.{sym, ap, ◌∙◌}
 use Rattle.lookups.specs.Reads.{covered_narrow_on}
 use Rattle.cablegorse.specs.Questions.{on_lock, narrow_reply, narrow_asked}
 use Rattle.cablegorse.proofs.questions.ask_narrow.Goals as goal

@@ -1,4 +1,4 @@
-use mathlib.Core.Path.{◌≡◌, sym, ap, ◌∙◌}
+use mathlib.Core.Path.{sym, ap, ◌∙◌}
 use Rattle.lookups.specs.Reads.{active_for_scope_on}
 use Rattle.cablegorse.specs.Questions.{on_scoped, active_reply, scope_asked}
 use borrow.Author.Rules.{rules}

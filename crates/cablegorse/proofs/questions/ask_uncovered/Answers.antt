@@ -1,4 +1,4 @@
-use mathlib.Core.Path.{◌≡◌, sym, ap, ◌∙◌}
+use mathlib.Core.Path.{sym, ap, ◌∙◌}
 use Rattle.lookups.specs.Reads.{uncovered_defunct_on}
 use Rattle.cablegorse.specs.Questions.{on_lock, defunct_reply, uncovered_asked}
 use Rattle.cablegorse.proofs.questions.ask_uncovered.Goals as goal

@@ -1,4 +1,4 @@
-use mathlib.Core.Path.{◌≡◌, ap, ◌∙◌}
+use mathlib.Core.Path.{ap, ◌∙◌}
 use Rattle.cablegorse.specs.Questions.{plain_reply}
 use Rattle.cablegorse.proofs.questions.bad.Goals as goal
 

@@ -1,5 +1,5 @@
 use Rattle.cablegorse.specs.declared.questions.Body.TheVariants as body
-use mathlib.Core.Path.{◌≡◌, sym, ap, ◌∙◌}
+use mathlib.Core.Path.{sym, ap, ◌∙◌}
 use Rattle.cablegorse.specs.declared.Told.{Told}
 use Rattle.cablegorse.specs.Questions.{bare, defunct_reply}
 use borrow.Author.Rules.{rules}

@@ -1,4 +1,4 @@
-use mathlib.Core.Path.{◌≡◌, ap, ◌∙◌}
+use mathlib.Core.Path.{ap, ◌∙◌}
 use Rattle.cablegorse.specs.declared.questions.Reply.{Reply}
 use Rattle.cablegorse.specs.Telling.{kept}
 use Rattle.cablegorse.specs.Questions.{reply_on}

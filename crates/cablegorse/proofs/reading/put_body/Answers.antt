@@ -1,4 +1,4 @@
-use mathlib.Core.Path.{◌≡◌, ◌∙◌}
+use mathlib.Core.Path.{◌∙◌}
 use Rattle.cablegorse.proofs.Buffers.{put_none, put_some}
 use Rattle.cablegorse.specs.Replies.{bytes_of_body}
 use borrow.Author.Rules.{rules}

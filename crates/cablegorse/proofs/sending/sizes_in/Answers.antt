@@ -1,7 +1,4 @@
-use Rattle.state.specs.contracts.ActiveLock as A
-use Rattle.ids.specs.contracts.LockId as I
 use native.Mathlib.Omega.{arith}
-use Rattle.lists.proofs.Loops.{length_of_mapped}
 use Rattle.image.proofs.Stores.{Capped, capped}
 use Rattle.cablegorse.proofs.Own.{sizes_are}
 use Rattle.cablegorse.proofs.sending.sizes_in.Goals as goal

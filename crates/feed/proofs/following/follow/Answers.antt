@@ -1,4 +1,4 @@
-use Rattle.std.proofs.Common.{◌-◌, arith}
+use Rattle.std.proofs.Common.{arith}
 use Rattle.feed.specs.Feed.{is_applied}
 use Rattle.feed.proofs.Chunks.{at_most_one, starts, ends, halts, moves, turns}
 use Rattle.feed.proofs.following.follow.Goals as goal

@@ -1,4 +1,4 @@
-use Rattle.std.proofs.Common.{◌≡◌, ℕ, List, sym, refl, ap, ◌∙◌, arith}
+use Rattle.std.proofs.Common.{ℕ, List, sym, refl, ap, ◌∙◌, arith}
 use Rattle.records.specs.Table.{in_feed}
 use Rattle.records.specs.Feeds.{request_of}
 use Rattle.image.proofs.Stepping.{Spans, spans, part_of}

@@ -1,8 +1,5 @@
 use mathlib.Core.Path.{sym, ◌∙◌}
-use mathlib.Core.Logic.{⊎_elim}
-use Prim.Native.Nat.{◌-◌}
 use native.Mathlib.Omega.{arith}
-use borrow.Author.Tests.{not-true, not-false}
 use Rattle.image.specs.Code.{placed}
 use Rattle.image.proofs.Passing.{begins_first, first_room, first_reads, first_stops, begins_second, second_room, second_reads, second_stops, ends_well, ends_ill}
 use Rattle.image.proofs.read.records_by.Goals as goal
@@ -58,6 +55,6 @@ loop-i-2-preserved c = second_stops _ _ _ _ _ _ _ _ _ _ _ c.loop-i-2-test.true _
 
 pub returns : goal.returns
 returns c = c.held.ensures ∙ elim c.if-not-is_done.branch [
-      | then-not-is_done w ↦ (λ i. placed c.at_end-told.result (w.head-is i) (w.active-is i) (w.defunct-is i)) ∙ ends_ill _ _ _ _ _ _ _ _ _ _ _ c.loop-i-2-test.false _ c.at_end-told.ensures c.loop-i-2.invariant (sym c.is_done.ensures ∙ w.if-not-is_done.true) _ _ w.blank_active-active-then-not-is_done.ensures w.blank_defunct-defunct-then-not-is_done.ensures
-      | else-not-is_done w ↦ (λ i. placed c.at_end-told.result (w.head-is i) (w.active-is i) (w.defunct-is i)) ∙ ends_well _ _ _ _ _ _ _ _ _ _ _ c.loop-i-2-test.false _ c.at_end-told.ensures c.loop-i-2.invariant (sym c.is_done.ensures ∙ w.if-not-is_done.false)
-    ]
+  | then-not-is_done w ↦ (λ i. placed c.at_end-told.result (w.head-is i) (w.active-is i) (w.defunct-is i)) ∙ ends_ill _ _ _ _ _ _ _ _ _ _ _ c.loop-i-2-test.false _ c.at_end-told.ensures c.loop-i-2.invariant (sym c.is_done.ensures ∙ w.if-not-is_done.true) _ _ w.blank_active-active-then-not-is_done.ensures w.blank_defunct-defunct-then-not-is_done.ensures
+  | else-not-is_done w ↦ (λ i. placed c.at_end-told.result (w.head-is i) (w.active-is i) (w.defunct-is i)) ∙ ends_well _ _ _ _ _ _ _ _ _ _ _ c.loop-i-2-test.false _ c.at_end-told.ensures c.loop-i-2.invariant (sym c.is_done.ensures ∙ w.if-not-is_done.false)
+]

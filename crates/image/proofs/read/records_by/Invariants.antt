@@ -1,4 +1,3 @@
-use mathlib.Core.Path.{◌∙◌}
 use Prim.Native.Nat.{◌-◌}
 use Rattle.image.proofs.Passing.{InFirst, InSecond}
 use Rattle.image.proofs.read.records_by.Given as goal

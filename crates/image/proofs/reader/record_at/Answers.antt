@@ -1,4 +1,4 @@
-use mathlib.Core.Path.{◌≡◌, sym, ◌∙◌, ap}
+use mathlib.Core.Path.{sym, ◌∙◌, ap}
 use native.Mathlib.Omega.{arith}
 use Rattle.image.specs.Steps.{step_by}
 use Rattle.image.proofs.Stepping.{step_framed, Spans, spans}

@@ -1,4 +1,3 @@
-use mathlib.Core.Path.{◌≡◌}
 use Prim.Native.Nat.{◌-◌}
 use Rattle.image.specs.Image.{active_list, bytes_of_one}
 use Rattle.records.proofs.Runs.{Put}

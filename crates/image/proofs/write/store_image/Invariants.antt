@@ -1,5 +1,4 @@
 use Prim.Native.Nat.{◌-◌}
-use mathlib.Core.Path.{◌≡◌}
 use Rattle.records.proofs.Runs.{Put}
 use Rattle.image.specs.Image.{active_list, defunct_list, bytes_of_one}
 use Rattle.image.proofs.Writes.{length_one, active_plain, defunct_plain}

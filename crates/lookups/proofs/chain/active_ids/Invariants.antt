@@ -1,5 +1,4 @@
-use mathlib.Core.Path.{◌∙◌}
-use Prim.Native.Nat.{◌≤◌, ◌<◌, ◌-◌}
+use Prim.Native.Nat.{◌≤◌, ◌-◌}
 use Rattle.state.specs.Locks.{blank_active}
 use Rattle.lookups.specs.Code.{Columns, active_id}
 use Rattle.lookups.proofs.chain.active_ids.Given as goal

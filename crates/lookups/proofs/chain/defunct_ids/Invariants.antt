@@ -1,5 +1,4 @@
-use mathlib.Core.Path.{◌∙◌}
-use Prim.Native.Nat.{◌≤◌, ◌<◌, ◌-◌}
+use Prim.Native.Nat.{◌≤◌, ◌-◌}
 use Rattle.state.specs.Locks.{blank_defunct}
 use Rattle.lookups.specs.Code.{Columns, defunct_id}
 use Rattle.lookups.proofs.chain.defunct_ids.Given as goal

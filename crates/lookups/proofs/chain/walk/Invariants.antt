@@ -1,5 +1,3 @@
-use mathlib.Core.Path.{◌≡◌}
-use Prim.Native.Nat.{◌≤◌, ◌<◌}
 use Rattle.ids.specs.Order.{key}
 use Rattle.state.specs.Model.{model_of}
 use Rattle.lookups.proofs.Walk.{ahead}

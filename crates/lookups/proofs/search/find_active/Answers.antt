@@ -1,10 +1,9 @@
 use mathlib.Core.Path.{◌≡◌, refl, sym, ap, ◌∙◌}
-use Prim.Native.Nat.{◌≤◌, ◌-◌}
+use Prim.Native.Nat.{◌≤◌}
 use native.Mathlib.Omega.{arith}
 use borrow.Author.Rules.{rules}
 use lib.ListN.{length}
 use Rattle.lists.proofs.Loops.{find_yes, find_no, find_end, length_of_mapped}
-use Rattle.state.specs.Locks.{has_id}
 use Rattle.lookups.specs.Reads.{told_a}
 use Rattle.lookups.proofs.search.find_active.Goals as goal
 use Rattle.lookups.proofs.search.find_active.Goals.{Start}

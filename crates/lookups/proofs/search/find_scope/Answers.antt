@@ -1,10 +1,10 @@
 use mathlib.Core.Path.{◌≡◌, refl, sym, ap, ◌∙◌}
-use Prim.Native.Nat.{◌≤◌, ◌-◌}
+use Prim.Native.Nat.{◌≤◌}
 use native.Mathlib.Omega.{arith}
 use borrow.Author.Rules.{rules}
 use lib.ListN.{length}
 use Rattle.lists.proofs.Loops.{find_yes, find_no, find_end, length_of_mapped}
-use Rattle.lookups.specs.Reads.{told_a, on_scope}
+use Rattle.lookups.specs.Reads.{told_a}
 use Rattle.lookups.proofs.search.find_scope.Goals as goal
 use Rattle.lookups.proofs.search.find_scope.Goals.{Start}
 

@@ -1,10 +1,9 @@
 use mathlib.Core.Path.{◌≡◌, refl, sym, ◌∙◌}
-use Prim.Native.Nat.{◌≤◌, ◌-◌}
+use Prim.Native.Nat.{◌≤◌}
 use native.Mathlib.Omega.{arith}
 use borrow.Author.Rules.{rules}
 use lib.ListN.{length}
 use Rattle.lists.proofs.Loops.{any_yes, any_no, any_end, length_of_mapped}
-use Rattle.lookups.specs.Reads.{group_over}
 use Rattle.lookups.proofs.search.has_group.Goals as goal
 use Rattle.lookups.proofs.search.has_group.Goals.{Start}
 

@@ -1,10 +1,9 @@
 use mathlib.Core.Path.{◌≡◌, refl, sym, ◌∙◌}
-use Prim.Native.Nat.{◌≤◌, ◌-◌}
+use Prim.Native.Nat.{◌≤◌}
 use native.Mathlib.Omega.{arith}
 use borrow.Author.Rules.{rules}
 use lib.ListN.{length, take}
 use Rattle.lists.proofs.Loops.{find_yes, find_no, find_end, length_of_mapped}
-use Rattle.lookups.specs.Reads.{on_scope}
 use Rattle.lookups.proofs.Presents.{one_needs, none_needs}
 use Rattle.lookups.proofs.search.is_needed.Goals as goal
 use Rattle.lookups.proofs.search.is_needed.Goals.{Start}

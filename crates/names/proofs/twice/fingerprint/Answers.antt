@@ -1,5 +1,3 @@
-use mathlib.Core.Path.{◌≡◌}
-use Prim.Native.Nat.{◌≤◌, ◌<◌, ◌-◌}
 use native.Mathlib.Omega.{arith}
 use Rattle.names.specs.Code.{print_from, print_of}
 use Rattle.names.proofs.Prints.{print_more, print_end}

@@ -1,6 +1,3 @@
-use mathlib.Core.Path.{◌≡◌}
-use mathlib.Core.Bool.{true}
-use Prim.Native.Nat.{◌≤◌, ◌-◌}
 use Rattle.names.proofs.Lists.{none_before, twice, once, none_left}
 use borrow.Author.Rules.{rules}
 use Rattle.names.proofs.twice.none_twice.Goals as goal

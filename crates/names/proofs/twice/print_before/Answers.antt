@@ -1,5 +1,3 @@
-use mathlib.Core.Path.{◌≡◌}
-use Prim.Native.Nat.{◌≤◌, ◌-◌}
 use Rattle.lists.specs.Below.{any_below}
 use Rattle.names.proofs.Prints.{any_more, any_end}
 use borrow.Author.Rules.{rules}

@@ -1,4 +1,4 @@
-use mathlib.Core.Path.{◌≡◌, sym, ◌∙◌}
+use mathlib.Core.Path.{sym, ◌∙◌}
 use Rattle.lists.proofs.Tests.{cond_true, cond_false}
 use Rattle.operations.specs.Answers.{is_done, and_then}
 use Rattle.operations.proofs.answers.and_then.Goals as goal

@@ -1,4 +1,3 @@
-use mathlib.Core.Path.{◌∙◌}
 use Rattle.operations.specs.Code.{check_named}
 use Rattle.operations.proofs.checks.check_named.Goals as goal
 

@@ -1,11 +1,10 @@
 use mathlib.Core.Path.{◌≡◌, refl, sym, ◌∙◌}
-use mathlib.Core.Bool.{true, false}
-use Prim.Native.Nat.{◌≤◌, ◌<◌, ◌+◌, ◌-◌}
+use Prim.Native.Nat.{◌≤◌}
 use native.Mathlib.Omega.{arith}
 use borrow.Author.Rules.{rules}
 use lib.ListN.{length, get_or, take}
 use Rattle.lists.proofs.Loops.{length_of_mapped}
-use Rattle.lists.specs.Tests.{◌and◌, non}
+use Rattle.lists.specs.Tests.{non}
 use Rattle.lists.proofs.Tests.{and_t, and_f, non_t, non_f}
 use Rattle.lists.proofs.Loops.{any_yes, any_no, any_end}
 use Rattle.state.specs.Locks.{blank_active}

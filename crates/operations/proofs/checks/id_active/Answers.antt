@@ -1,11 +1,9 @@
 use mathlib.Core.Path.{◌≡◌, refl, sym, ◌∙◌}
-use mathlib.Core.Bool.{true, false}
-use Prim.Native.Nat.{◌≤◌, ◌<◌, ◌+◌, ◌-◌}
+use Prim.Native.Nat.{◌≤◌}
 use native.Mathlib.Omega.{arith}
 use borrow.Author.Rules.{rules}
 use lib.ListN.{length}
 use Rattle.lists.proofs.Loops.{length_of_mapped}
-use Rattle.state.specs.Locks.{has_id}
 use Rattle.lists.proofs.Loops.{any_yes, any_no, any_end}
 use Rattle.operations.proofs.checks.id_active.Goals as goal
 use Rattle.operations.proofs.checks.id_active.Goals.{Start}

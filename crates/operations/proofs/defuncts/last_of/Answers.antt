@@ -1,5 +1,5 @@
 use mathlib.Core.Path.{◌≡◌, ◌∙◌}
-use Prim.Native.Nat.{◌-◌, ◌≤◌}
+use Prim.Native.Nat.{◌-◌}
 use native.Mathlib.Omega.{arith}
 use Rattle.operations.proofs.Landing.{walk_starts, walk_turns, walk_stops, walk_spent}
 use Rattle.operations.proofs.defuncts.last_of.Goals as goal

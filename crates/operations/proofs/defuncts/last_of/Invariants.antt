@@ -1,5 +1,5 @@
 use mathlib.Core.List.{List}
-use mathlib.Core.Path.{◌≡◌, ◌∙◌}
+use mathlib.Core.Path.{◌≡◌}
 use Prim.Native.Nat.{◌-◌, ◌≤◌}
 use Rattle.state.specs.declared.DefunctLock.{DefunctLock}
 use Rattle.operations.specs.Code.{entry_at, last_from, Led}

@@ -1,4 +1,4 @@
-use Prim.Native.Nat.{ℕ, ◌+◌, ◌-◌, ◌/◌, ◌≤◌, ◌<◌}
+use Prim.Native.Nat.{ℕ, ◌-◌, ◌≤◌, ◌<◌}
 use Rattle.ids.specs.Order.{key}
 use Rattle.rules.specs.Code.{key_at}
 use Rattle.operations.proofs.defuncts.place.Given as goal

@@ -1,11 +1,10 @@
 use mathlib.Core.Path.{◌≡◌, refl, sym, ◌∙◌}
-use Prim.Native.Nat.{◌≤◌, ◌-◌}
+use Prim.Native.Nat.{◌≤◌}
 use native.Mathlib.Omega.{arith}
 use borrow.Author.Rules.{rules}
 use lib.ListN.{length}
 use Rattle.lists.proofs.First.{place_yes, place_no, place_end}
 use Rattle.lists.proofs.Loops.{length_of_mapped}
-use Rattle.state.specs.Locks.{has_id}
 use Rattle.operations.proofs.renew.place_of.Goals as goal
 use Rattle.operations.proofs.renew.place_of.Goals.{Start}
 

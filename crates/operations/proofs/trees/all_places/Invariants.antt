@@ -1,5 +1,4 @@
-use mathlib.Core.Path.{◌≡◌, ◌∙◌}
-use Prim.Native.Nat.{◌≤◌, ◌<◌, ◌+◌, ◌-◌}
+use Prim.Native.Nat.{◌≤◌, ◌-◌}
 use Rattle.lists.specs.Places.{Holds}
 use Rattle.operations.specs.Code.{up_to}
 use Rattle.operations.proofs.trees.all_places.Given as goal

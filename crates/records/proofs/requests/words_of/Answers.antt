@@ -1,5 +1,4 @@
-use mathlib.Core.Path.{◌≡◌, refl}
-use Prim.Native.Nat.{◌-◌, ◌≤◌}
+use mathlib.Core.Path.{refl}
 use native.Mathlib.Omega.{arith}
 use Rattle.records.proofs.Feeds.{word_more, words_all}
 use Rattle.records.proofs.requests.words_of.Goals as goal

@@ -1,6 +1,6 @@
 use mathlib.Core.Path.{ap, ◌∙◌}
 use mathlib.Core.List.{List}
-use Prim.Native.Nat.{ℕ, ◌-◌, ◌+◌, ◌*◌}
+use Prim.Native.Nat.{ℕ, ◌+◌, ◌*◌}
 use lib.Seq.{take_all}
 use Rattle.records.specs.Numbers.{splice, big, bytes_of}
 use Rattle.records.specs.Sending.{word_bytes}

@@ -1,5 +1,4 @@
-use mathlib.Core.Path.{◌∙◌}
-use Prim.Native.Nat.{◌-◌, ◌+◌, ◌*◌}
+use Prim.Native.Nat.{◌-◌}
 use Rattle.records.specs.Numbers.{big, bytes_of}
 use Rattle.records.proofs.Numbers.{length_bytes_of}
 use Rattle.records.proofs.Runs.{Put}

@@ -1,4 +1,4 @@
-use mathlib.Core.Path.{◌≡◌, sym}
+use mathlib.Core.Path.{sym}
 use Rattle.rules.proofs.Clash.{lone_vehicle, all_friends, none_met}
 use Rattle.rules.proofs.covers.settled.Goals as goal
 

@@ -1,9 +1,7 @@
-use mathlib.Core.Path.{◌≡◌, refl, sym, ◌∙◌}
-use mathlib.Core.Bool.{true, false, ◌&&◌}
-use Prim.Native.Nat.{◌+◌, ◌-◌, ◌*◌, ◌≤◌, ◌<◌}
+use mathlib.Core.Path.{◌≡◌, refl, sym}
+use mathlib.Core.Bool.{true}
 use native.Mathlib.Omega.{arith}
 use borrow.Author.Count.{below_more}
-use Rattle.lists.specs.Tests.{◌and◌, ◌imp◌}
 use Rattle.lists.proofs.Below.{all_of, all_no}
 use Rattle.rules.proofs.Scans.{on, off}
 use Rattle.rules.proofs.parents.owned.Goals as goal

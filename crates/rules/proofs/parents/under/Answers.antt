@@ -1,9 +1,7 @@
-use mathlib.Core.Path.{◌≡◌, sym, ◌∙◌}
-use mathlib.Core.Bool.{true, false, ◌&&◌}
-use Prim.Native.Nat.{◌+◌, ◌-◌, ◌*◌, ◌≤◌, ◌<◌}
+use mathlib.Core.Path.{◌≡◌, sym}
+use mathlib.Core.Bool.{true}
 use native.Mathlib.Omega.{arith}
 use borrow.Author.Count.{below_more}
-use Rattle.lists.specs.Tests.{◌and◌, ◌imp◌}
 use Rattle.lists.proofs.Below.{all_of, all_no}
 use Rattle.rules.proofs.Scans.{on, off, some_same}
 use Rattle.rules.proofs.parents.under.Goals as goal

@@ -1,4 +1,3 @@
-use mathlib.Core.Path.{◌≡◌}
 use Prim.Native.Nat.{◌-◌, ◌≤◌}
 use Rattle.rules.specs.Code.{Slotted}
 use Rattle.rules.proofs.places.fill_slots.Given as goal

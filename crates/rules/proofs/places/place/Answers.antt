@@ -1,9 +1,9 @@
-use mathlib.Core.Path.{◌≡◌, refl}
+use mathlib.Core.Path.{refl}
 use mathlib.Core.Logic.{inl, inr}
-use Prim.Native.Nat.{◌+◌, ◌-◌, ◌*◌, ◌/◌, ◌≤◌, ◌<◌}
+use Prim.Native.Nat.{◌+◌, ◌-◌, ◌/◌}
 use native.Mathlib.Omega.{arith}
 use Rattle.ids.specs.Order.{key}
-use Rattle.rules.specs.Code.{id_at, key_at}
+use Rattle.rules.specs.Code.{key_at}
 use Rattle.rules.proofs.Search.{is_less, not_less, is_same, not_same, low, high, missed}
 use Rattle.rules.proofs.places.place.Goals as goal
 

@@ -1,5 +1,4 @@
-use mathlib.Core.Path.{◌≡◌, ◌∙◌}
-use Rattle.lists.specs.Tests.{◌and◌, ◌or◌, ◌imp◌}
+use Rattle.lists.specs.Tests.{◌and◌, ◌or◌}
 use Rattle.rules.specs.Rules.{neat_a}
 use Rattle.rules.proofs.shapes.neat_active.Goals as goal
 

@@ -1,5 +1,3 @@
-use mathlib.Core.Path.{◌≡◌, ◌∙◌}
-use Rattle.lists.specs.Tests.{◌and◌, ◌or◌, ◌imp◌}
 use Rattle.rules.specs.Rules.{neat_d}
 use Rattle.rules.proofs.shapes.neat_defunct.Goals as goal
 

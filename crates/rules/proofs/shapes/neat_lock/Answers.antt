@@ -1,6 +1,4 @@
-use mathlib.Core.Path.{◌≡◌, ◌∙◌}
 use Rattle.lists.proofs.Tests.{codes, imp_code}
-use Rattle.lists.specs.Tests.{◌and◌, ◌or◌, ◌imp◌}
 use Rattle.rules.specs.Rules.{neat_l}
 use Rattle.rules.proofs.shapes.neat_lock.Goals as goal
 

@@ -1,5 +1,5 @@
-use mathlib.Core.Path.{◌≡◌, refl, ◌∙◌}
-use Rattle.lists.specs.Tests.{◌and◌, ◌or◌, ◌imp◌}
+use mathlib.Core.Path.{refl}
+use Rattle.lists.specs.Tests.{◌and◌}
 use Rattle.rules.specs.Rules.{zero_set}
 use Rattle.rules.proofs.shapes.zero_set.Goals as goal
 

@@ -1,5 +1,4 @@
-use mathlib.Core.Path.{◌≡◌, ◌∙◌}
-use Prim.Native.Nat.{◌-◌, ◌≤◌, ◌<◌}
+use Prim.Native.Nat.{◌-◌, ◌≤◌}
 use Rattle.rules.proofs.Steps.{zeros, Passed, Passing}
 use Rattle.rules.proofs.walks.leads_out.Given as goal
 
