@@ -13,6 +13,8 @@ use operations::{acknowledge, delete, insert, insert_vehicle, numbers, renew, re
 use records::layout;
 use rules::Verdict;
 use state::{ActiveLock, Lock, LockState, ScopeKey};
+use std::io;
+use std::io::Read;
 
 fn plus(x: u64, y: u64) -> u64 {
     std::num::wrapping_add_u64(x, y)
@@ -338,7 +340,7 @@ fn state_copies(s: LockState, n: u64) -> u64 {
 }
 
 fn by_bytes(bytes: &mut [u8], what: u8, n: u64) -> u64 {
-    let mut out = io::large_buffer();
+    let mut out = [0u8; 65536];
     let r = image::read::read_image(bytes);
     let spare = r.spare;
     if what > 15 {
@@ -353,15 +355,15 @@ fn by_bytes(bytes: &mut [u8], what: u8, n: u64) -> u64 {
     }
 }
 
-fn main() {
-    let mut input = io::large_buffer();
-    let n = io::read_full(0, &mut input);
+fn main(rt: HostRuntime) -> io::Result<()> {
+    let mut input = Vec::new(rt.alloc());
+    rt.reader().take(65536).read_to_end(&mut input)?;
+    let n = input.len();
     if n < 2 {
-        return;
+        return Ok(());
     }
     let what = input[0];
     let k = input[1] % 32;
     let total = by_bytes(&mut input[2..n], what, 1u64 << (k as u64));
-    io::print_decimal(1, total);
-    io::write_all(1, b"\n");
+    println!(rt; "{total}")
 }

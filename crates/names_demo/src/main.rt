@@ -2,14 +2,11 @@
 // SPDX-License-Identifier: Apache-2.0
 #![tactic(auto)]
 
-use libc::STDOUT_FILENO;
 use names::Named;
+use std::io;
 
-fn label(what: &[u8], n: u64) {
-    io::write_all(STDOUT_FILENO, what);
-    io::write_all(STDOUT_FILENO, b" ");
-    io::print_decimal(STDOUT_FILENO, n);
-    io::write_all(STDOUT_FILENO, b"\n");
+fn label(rt: &impl Print, what: &str, n: u64) -> io::Result<()> {
+    println!(rt; "{what} {n}")
 }
 
 // A digit of the name's number, 0 to 9.
@@ -61,40 +58,52 @@ fn right(told: Named, i: usize, new: bool) -> bool {
 }
 
 // An answer as document 01 has it: its number, and the name's number where there is one.
-fn say(table: &mut [u8], what: &[u8], name: &[u8], folding: bool) {
+fn say(
+    rt: &impl Print,
+    table: &mut [u8],
+    what: &str,
+    name: &[u8],
+    folding: bool,
+) -> io::Result<()> {
     let told = names::number_of(table, name, folding);
-    label(what, names::paper(told) as u64);
+    label(rt, what, names::paper(told) as u64)?;
     match told {
-        Named::Known(k) => label(b"  known", k as u64),
-        Named::Learned(k) => label(b"  new", k as u64),
-        _ => {}
+        Named::Known(k) => label(rt, "  known", k as u64),
+        Named::Learned(k) => label(rt, "  new", k as u64),
+        _ => Ok(()),
     }
 }
 
 // A table that folds: 256 names, each again, and what a full table and a spoiled one answer.
-fn units() {
+fn units(rt: &impl Print) -> io::Result<()> {
     let mut table = [0u8; names::SIZE];
-    label(b"learned", ask(&mut table, names::MOST, false, true));
-    label(b"asked again", ask(&mut table, names::MOST, true, false));
-    say(&mut table, b"one more:", b"Gateway", true);
-    say(&mut table, b"an old one:", b"ecu-200", true);
-    io::write_all(STDOUT_FILENO, names::name_at(&table, 42, true));
-    io::write_all(STDOUT_FILENO, b"\n");
-    say(&mut table, b"65 bytes:", &[b'x'; names::LONGEST + 1], true);
+    label(rt, "learned", ask(&mut table, names::MOST, false, true))?;
+    label(rt, "asked again", ask(&mut table, names::MOST, true, false))?;
+    say(rt, &mut table, "one more:", b"Gateway", true)?;
+    say(rt, &mut table, "an old one:", b"ecu-200", true)?;
+    rt.write_all(names::name_at(&table, 42, true))?;
+    println!(rt; "")?;
+    say(
+        rt,
+        &mut table,
+        "65 bytes:",
+        &[b'x'; names::LONGEST + 1],
+        true,
+    )?;
     table[names::SIZE - 1] = 1;
-    say(&mut table, b"a spoiled table:", b"ecu-200", true);
+    say(rt, &mut table, "a spoiled table:", b"ecu-200", true)
 }
 
 // A table that keeps the case.
-fn subjects() {
+fn subjects(rt: &impl Print) -> io::Result<()> {
     let mut table = [0u8; names::SIZE];
-    say(&mut table, b"a subject:", b"Tester", false);
-    say(&mut table, b"in another case:", b"TESTER", false);
-    say(&mut table, b"no bytes:", b"", false);
-    say(&mut table, b"again:", b"Tester", false);
+    say(rt, &mut table, "a subject:", b"Tester", false)?;
+    say(rt, &mut table, "in another case:", b"TESTER", false)?;
+    say(rt, &mut table, "no bytes:", b"", false)?;
+    say(rt, &mut table, "again:", b"Tester", false)
 }
 
-fn main() {
-    units();
-    subjects();
+fn main(rt: HostRuntime) -> io::Result<()> {
+    units(&rt)?;
+    subjects(&rt)
 }

@@ -8,12 +8,9 @@ ghost use Rattle.feed.specs.Runs.{run_on};
 use feed::events::Step;
 use feed::{events, numbers};
 use image::Spare;
-use libc::STDOUT_FILENO;
+use itoa::Buffer;
 
 const LINE: usize = 128;
-
-// The decimal digits of the greatest number.
-const DIGITS: usize = 20;
 
 // A line that is being put together, so that it is written at once.
 #[derive(Clone, Copy)]
@@ -40,21 +37,21 @@ fn put(line: Line, s: &[u8]) -> Line {
 
 // The number in decimal digits, and what stands after it.
 fn number(line: Line, n: u64, after: &[u8]) -> Line {
-    let mut digits = [0u8; DIGITS];
-    let k = io::decimal(n, &mut digits);
-    put(put(line, &digits[..k]), after)
+    let mut digits = Buffer::new();
+    put(put(line, digits.format(n).as_bytes()), after)
 }
 
-fn write(bytes: &[u8], n: usize) {
+// A line that can't be written is passed over: the spare after the feed doesn't depend on who reads the lines.
+fn write(rt: &impl Print, bytes: &[u8], n: usize) {
     if bytes.len() < n {
         return;
     }
-    io::write_all(STDOUT_FILENO, &bytes[0..n]);
+    let _ = rt.write_all(&bytes[0..n]);
 }
 
-fn finish(line: Line) {
+fn finish(rt: &impl Print, line: Line) {
     let bytes = line.bytes;
-    write(&bytes, line.count);
+    write(rt, &bytes, line.count);
 }
 
 fn blank() -> Line {
@@ -65,7 +62,7 @@ fn blank() -> Line {
 }
 
 // Sequence, answer, revision, active, defunct.
-fn print_line(s: Step) {
+fn print_line(rt: &impl Print, s: Step) {
     let told = s.told;
     let event = told.event;
     let spare = s.spare;
@@ -74,19 +71,19 @@ fn print_line(s: Step) {
     let b = number(a, numbers::number(event), b" ");
     let c = number(b, state.revision, b" ");
     let d = number(c, state.actives as u64, b" ");
-    finish(number(d, state.defuncts as u64, b"\n"));
+    finish(rt, number(d, state.defuncts as u64, b"\n"));
 }
 
-fn print_bad(s: Step, at: usize) {
+fn print_bad(rt: &impl Print, s: Step, at: usize) {
     let told = s.told;
     let event = told.event;
     let a = put(blank(), b"bad ");
     let b = number(a, numbers::number(event), b" ");
-    finish(number(b, at as u64, b"\n"));
+    finish(rt, number(b, at as u64, b"\n"));
 }
 
 // The spare after the feed's last whole record. A step that reads nothing ends the play.
-pub fn play(start: Spare, feed: &[u8]) -> Spare
+pub fn play(rt: &impl Print, start: Spare, feed: &[u8]) -> Spare
     ensures { result ≡ run_on (length feed.now) start feed.now 0 }
 {
     let mut spare = start;
@@ -96,10 +93,10 @@ pub fn play(start: Spare, feed: &[u8]) -> Spare
         let told = s.told;
         let event = told.event;
         if events::stops(event) {
-            print_bad(s, at);
+            print_bad(rt, s, at);
             return spare;
         }
-        print_line(s);
+        print_line(rt, s);
         spare = s.spare;
         at = told.next;
     }

@@ -1,8 +1,11 @@
 -- Ids as text. Document 01, "Numbers that stand for things": "Lock id: 16 bytes, compared from the first byte"; "lowercase UUID
 -- text, which sorts alike". Assumes nothing.
-use Rattle.std.specs.Prelude.{ℕ, ◌/◌, ◌%◌, ◌^◌, List, [], ◌∷◌, ◌++◌}
-use Rattle.io.specs.Digits.{hex_digit_ascii}
+use Rattle.std.specs.Prelude.{ℕ, ◌+◌, ◌/◌, ◌%◌, ◌^◌, List, [], ◌∷◌, ◌++◌, cond, nat_lt}
 use Rattle.ids.specs.declared.LockId.{LockId}
+
+-- a digit below 16: 48 is 0, and 87 is ten before a
+abbrev pub hex_digit_ascii : ℕ → ℕ
+hex_digit_ascii d = cond (nat_lt d 10) (48 + d) (87 + d)
 
 -- the last four hexadecimal digits
 unfoldable pub four_of : ℕ → List ℕ

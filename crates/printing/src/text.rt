@@ -1,8 +1,7 @@
 // Ids as text.
 // SPDX-License-Identifier: Apache-2.0
 ghost use Rattle.std.specs.Prelude.{◌≡◌, ◌%◌};
-ghost use Rattle.io.specs.Digits.{hex_digit_ascii};
-ghost use Rattle.printing.specs.Text.{four_of, id_text};
+ghost use Rattle.printing.specs.Text.{hex_digit_ascii, four_of, id_text};
 
 use ids::LockId;
 

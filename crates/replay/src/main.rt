@@ -3,20 +3,21 @@
 #![tactic(auto)]
 
 use image::Spare;
-use libc::{STDIN_FILENO, STDOUT_FILENO};
 use state::LockState;
+use std::io;
+use std::io::Read;
 
-// The buffer has one byte more than a feed may have, so that a longer one is seen.
-fn main() {
-    let mut buffer = [0u8; 65537];
-    let n = io::read_full(STDIN_FILENO, &mut buffer);
-    if 65536 < n {
-        io::write_all(STDOUT_FILENO, b"long\n");
-        return;
+// One byte more is read than a feed may have, so that a longer one is seen.
+fn main(rt: HostRuntime) -> io::Result<()> {
+    let mut feed = Vec::new(rt.alloc());
+    rt.reader().take(65537).read_to_end(&mut feed)?;
+    if 65536 < feed.len() {
+        return println!(rt; "long");
     }
     let spare = Spare {
         state: LockState::empty(),
         expected: 0,
     };
-    player::play(spare, &buffer[..n]);
+    player::play(&rt, spare, feed.as_slice());
+    Ok(())
 }

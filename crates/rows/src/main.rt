@@ -6,40 +6,44 @@
 
 use coverage::{LockCoverage, Spot};
 use ids::LockId;
-use libc::STDOUT_FILENO;
 use operations::answers::{Answer, Expiration, Expired, Inserted, Renewed, Replaced};
 use operations::{delete, insert, insert_vehicle, numbers, renew, replace};
 use state::{ActiveLock, Lock, LockState, ScopeKey};
+use std::io;
 
 // ---- what is printed
-fn text(t: &[u8]) {
-    io::write_all(STDOUT_FILENO, t);
+fn text(rt: &impl Print, t: &str) -> io::Result<()> {
+    rt.print(t)
 }
 
-fn number(n: u64) {
-    text(b" ");
-    io::print_decimal(STDOUT_FILENO, n);
+fn number(rt: &impl Print, n: u64) -> io::Result<()> {
+    print!(rt; " {n}")
 }
 
-fn left(answer: u64, s: LockState) {
-    number(answer);
-    number(s.revision);
-    number(s.actives as u64);
-    number(s.defuncts as u64);
+fn left(rt: &impl Print, answer: u64, s: LockState) -> io::Result<()> {
+    number(rt, answer)?;
+    number(rt, s.revision)?;
+    number(rt, s.actives as u64)?;
+    number(rt, s.defuncts as u64)
 }
 
-fn ids_of(removed: [ActiveLock; LockState::ACTIVE], gone: usize) {
-    text(b" removed");
+fn ids_of(
+    rt: &impl Print,
+    removed: [ActiveLock; LockState::ACTIVE],
+    gone: usize,
+) -> io::Result<()> {
+    text(rt, " removed")?;
     let mut i: usize = 0;
     while i < LockState::ACTIVE {
         let a = removed[i];
         let l = a.lock;
         let k = l.id;
         if i < gone {
-            number(k.lo);
+            number(rt, k.lo)?;
         }
         i += 1;
     }
+    Ok(())
 }
 
 // ---- what is inserted: what the sheet leaves open is zero
@@ -91,93 +95,112 @@ fn a() -> LockState {
 }
 
 // ---- a line for each kind of operation
-fn conflict(other: LockId, at: Spot) {
-    number(other.lo);
+fn conflict(rt: &impl Print, other: LockId, at: Spot) -> io::Result<()> {
+    number(rt, other.lo)?;
     if let Spot::Ecu(e) = at {
-        text(b" at ECU");
-        number(e as u64);
+        text(rt, " at ECU")?;
+        number(rt, e as u64)?;
     }
+    Ok(())
 }
 
-fn inserted(name: &[u8], r: Inserted) {
-    text(name);
+fn inserted(rt: &impl Print, name: &str, r: Inserted) -> io::Result<()> {
+    text(rt, name)?;
     let told = r.told;
-    left(numbers::of_answer(told), r.state);
+    left(rt, numbers::of_answer(told), r.state)?;
     match told {
-        Answer::DuplicateId(i) => number(i.lo),
-        Answer::CoverageConflict(i, at) => conflict(i, at),
+        Answer::DuplicateId(i) => number(rt, i.lo)?,
+        Answer::CoverageConflict(i, at) => conflict(rt, i, at)?,
         _ => {}
     }
-    text(b"\n");
+    text(rt, "\n")
 }
 
-fn renewed(name: &[u8], r: Renewed) {
-    text(name);
+fn renewed(rt: &impl Print, name: &str, r: Renewed) -> io::Result<()> {
+    text(rt, name)?;
     let told = r.told;
-    left(numbers::of_renewal(told), r.state);
-    text(b"\n");
+    left(rt, numbers::of_renewal(told), r.state)?;
+    text(rt, "\n")
 }
 
-fn expired(name: &[u8], r: Expired) {
-    text(name);
+fn expired(rt: &impl Print, name: &str, r: Expired) -> io::Result<()> {
+    text(rt, name)?;
     let told = r.told;
     let answer = told.answer;
-    left(numbers::of_expiration(answer), r.state);
+    left(rt, numbers::of_expiration(answer), r.state)?;
     if let Expiration::NotDue(t) = answer {
-        text(b" not due");
-        number(t);
+        text(rt, " not due")?;
+        number(rt, t)?;
     }
     let removed = told.removed;
-    ids_of(removed, told.gone);
-    text(b"\n");
+    ids_of(rt, removed, told.gone)?;
+    text(rt, "\n")
 }
 
-fn replaced(name: &[u8], r: Replaced) {
-    text(name);
+fn replaced(rt: &impl Print, name: &str, r: Replaced) -> io::Result<()> {
+    text(rt, name)?;
     let told = r.told;
     let answer = told.answer;
-    left(numbers::of_answer(answer), r.state);
+    left(rt, numbers::of_answer(answer), r.state)?;
     let removed = told.removed;
-    ids_of(removed, told.gone);
-    text(b"\n");
+    ids_of(rt, removed, told.gone)?;
+    text(rt, "\n")
 }
 
 // ---- the rows
-fn insertions() {
-    inserted(b"A:", insert::insert_active(LockState::empty(), ecu5(1, 1)));
+fn insertions(rt: &impl Print) -> io::Result<()> {
     inserted(
-        b"group {5,6}:",
+        rt,
+        "A:",
+        insert::insert_active(LockState::empty(), ecu5(1, 1)),
+    )?;
+    inserted(
+        rt,
+        "group {5,6}:",
         insert::insert_active(a(), group3(2, b"\x05\x06", 2)),
-    );
+    )?;
     inserted(
-        b"group {6}:",
+        rt,
+        "group {6}:",
         insert::insert_active(a(), group3(2, b"\x06", 2)),
-    );
+    )?;
     inserted(
-        b"vehicle of another:",
+        rt,
+        "vehicle of another:",
         insert::insert_active(a(), whole(2, 2)),
-    );
+    )?;
     let s = put(
         LockState::empty(),
         lock(1, ScopeKey::Ecu(5), LockCoverage::empty(), 1),
     );
     inserted(
-        b"group over an empty set:",
+        rt,
+        "group over an empty set:",
         insert::insert_active(s, group3(2, b"\x05", 2)),
-    );
+    )
 }
 
-fn times() {
+fn times(rt: &impl Print) -> io::Result<()> {
     renewed(
-        b"renew at 100:",
+        rt,
+        "renew at 100:",
         renew::renew(a(), id(1), 200, 100, false, 0),
-    );
-    expired(b"expire at 99:", delete::begin_expiration(a(), id(1), 99));
-    expired(b"expire at 100:", delete::begin_expiration(a(), id(1), 100));
+    )?;
+    expired(
+        rt,
+        "expire at 99:",
+        delete::begin_expiration(a(), id(1), 99),
+    )?;
+    expired(
+        rt,
+        "expire at 100:",
+        delete::begin_expiration(a(), id(1), 100),
+    )?;
     renewed(
-        b"renew at 99 to 100:",
+        rt,
+        "renew at 99 to 100:",
         renew::renew(a(), id(1), 100, 99, false, 0),
-    );
+    )
 }
 
 // ECU 5 id 3 {5}; group 3 {5,6}; a vehicle lock with only the group as child; one subject.
@@ -189,25 +212,29 @@ fn family(vehicle_id: u64, group_id: u64) -> LockState {
     r.state
 }
 
-fn replacements() {
+fn replacements(rt: &impl Print) -> io::Result<()> {
     let one = [0u64, 1];
     replaced(
-        b"replace by one's own:",
+        rt,
+        "replace by one's own:",
         replace::commit_replacement(a(), &one, ecu5(2, 1), 0, 0),
-    );
+    )?;
     replaced(
-        b"replace by another's:",
+        rt,
+        "replace by another's:",
         replace::commit_replacement(a(), &one, ecu5(2, 2), 0, 0),
-    );
+    )?;
     let both = [0u64, 1, 0, 2];
     replaced(
-        b"vehicle 1, group 2:",
+        rt,
+        "vehicle 1, group 2:",
         replace::commit_replacement(family(1, 2), &both, ecu5(4, 1), 0, 0),
-    );
+    )?;
     replaced(
-        b"vehicle 2, group 1:",
+        rt,
+        "vehicle 2, group 1:",
         replace::commit_replacement(family(2, 1), &both, ecu5(4, 1), 0, 0),
-    );
+    )
 }
 
 const ACTIVES: u8 = LockState::ACTIVE as u8;
@@ -229,19 +256,20 @@ fn full() -> LockState {
     s
 }
 
-fn limits() {
-    inserted(b"a 65th:", insert::insert_active(full(), ecu5(65, 1)));
-    inserted(b"a used id:", insert::insert_active(full(), ecu5(64, 1)));
+fn limits(rt: &impl Print) -> io::Result<()> {
+    inserted(rt, "a 65th:", insert::insert_active(full(), ecu5(65, 1)))?;
+    inserted(rt, "a used id:", insert::insert_active(full(), ecu5(64, 1)))?;
     let one = [0u64, 1];
     replaced(
-        b"a replacement of one:",
+        rt,
+        "a replacement of one:",
         replace::commit_replacement(full(), &one, ecu5(65, 1), 0, 0),
-    );
+    )
 }
 
-fn main() {
-    insertions();
-    times();
-    replacements();
-    limits();
+fn main(rt: HostRuntime) -> io::Result<()> {
+    insertions(&rt)?;
+    times(&rt)?;
+    replacements(&rt)?;
+    limits(&rt)
 }

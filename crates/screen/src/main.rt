@@ -15,6 +15,8 @@ use ids::LockId;
 use printing::Given;
 use records::requests;
 use state::LockState;
+use std::env::FillError;
+use std::rt::Env;
 
 // The board of a sound state: into a buffer of its size it is never refused.
 fn board_of(state: LockState) -> [u8; board::SIZE]
@@ -38,42 +40,43 @@ fn id_in(bytes: &[u8]) -> LockId
     }
 }
 
-fn line(e: usize, entry: &[u8])
+fn line(rt: &impl Print, e: usize, entry: &[u8])
     requires { length entry.now ≡ 17 }
 {
     let count = entry[0];
     if count == 0 {
         return;
     }
-    printing::number(b"ecu ", e as u64);
-    printing::number(b" locks ", count as u64);
-    printing::id(b" lowest ", id_in(&entry[1..board::ENTRY]));
-    printing::say(b"\n");
+    printing::number(rt, b"ecu ", e as u64);
+    printing::number(rt, b" locks ", count as u64);
+    printing::id(rt, b" lowest ", id_in(&entry[1..board::ENTRY]));
+    printing::say(rt, b"\n");
 }
 
-fn lines(board: [u8; board::SIZE]) {
+fn lines(rt: &impl Print, board: [u8; board::SIZE]) {
     let mut e: usize = 0;
     while e < board::ECUS {
         let at = e * board::ENTRY;
-        line(e, &board[at..at + board::ENTRY]);
+        line(rt, e, &board[at..at + board::ENTRY]);
         e += 1;
     }
 }
 
-fn screen(given: Given)
+fn screen(rt: &impl Print, given: Given)
     requires { FromBytes given }
 {
     if given.accepted {
-        lines(board_of(given.spare.state));
+        lines(rt, board_of(given.spare.state));
     }
 }
 
-fn main() {
-    if os::arg_count() < 2 {
-        screen(printing::image_in(b"-"));
-        return;
-    }
-    let mut name = io::buffer();
-    let n = os::arg(1, &mut name);
-    screen(printing::image_in(&name[..n]));
+// No path is as long as the buffer: a name that is too long reads as none.
+fn main(rt: HostRuntime) {
+    let mut name = [0u8; 4096];
+    let given = match rt.arg(1, &mut name) {
+        Ok(n) => printing::image_in(&rt, &name[..n]),
+        Err(FillError::TooLong) => printing::image_in(&rt, b""),
+        Err(FillError::NotPresent) => printing::image_in(&rt, b"-"),
+    };
+    screen(&rt, given);
 }

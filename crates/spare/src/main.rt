@@ -3,34 +3,65 @@
 // SPDX-License-Identifier: Apache-2.0
 #![tactic(auto)]
 
-use image::{Imaged, Reading, Spare, Writing, read, write};
-use libc::STDOUT_FILENO;
-use state::LockState;
+ghost use Rattle.std.specs.Prelude.{◌≤◌, length};
 
-// Opens the file that argument i names.
-fn open(i: usize, new: bool) -> i32 {
-    let mut path = io::buffer();
-    let n = os::arg(i, &mut path);
-    if os::errno() != 0 {
-        os::fail(b"spare BASE FEED NEW");
-        return -1;
-    }
-    let mut fd = -1;
-    if new {
-        fd = os::open_overwrite(&path[..n]);
+use image::{Imaged, Reading, Spare, Writing, read, write};
+use state::LockState;
+use std::env::FillError;
+use std::fs::File;
+use std::io::{Read, Write};
+use std::rt::{Env, Files, Runtime};
+use std::{io, str};
+
+// The system's words alone: std's text of an error has its number after them.
+fn fail(rt: &(impl Eprint + Alloc), what: &str, error: io::Error) -> io::Result<()> {
+    let text = format!(in rt.alloc(); "{error}")?;
+    let words = text.as_str().split(" (os error ").next().unwrap_or("");
+    eprintln!(rt; "{what}: {words}")
+}
+
+fn opened<R: Files + Eprint + Alloc>(rt: &R, path: &str, new: bool) -> Option<R::File> {
+    let tried = if new {
+        File::create(rt, path)
     } else {
-        fd = os::open_read(&path[..n]);
+        File::open(rt, path)
+    };
+    match tried {
+        Ok(file) => Some(file),
+        Err(error) => {
+            let _ = fail(rt, path, error);
+            None
+        }
     }
-    if fd < 0 {
-        os::fail(&path[..n]);
+}
+
+// Opens the file that argument i names. std opens a file by a name that is text, and no other.
+fn open<R: Runtime>(rt: &R, i: usize, new: bool) -> Option<R::File> {
+    let mut path = [0u8; 4096];
+    let n = match rt.arg(i, &mut path) {
+        Ok(n) => n,
+        Err(FillError::TooLong) => {
+            let _ = eprintln!(rt; "spare BASE FEED NEW: File name too long");
+            return None;
+        }
+        Err(FillError::NotPresent) => {
+            let _ = eprintln!(rt; "spare BASE FEED NEW: Invalid argument");
+            return None;
+        }
+    };
+    match str::from_utf8(&path[..n]) {
+        Ok(name) => opened(rt, name, new),
+        Err(_) => {
+            let _ = eprintln!(rt; "{}: not UTF-8", path[..n].escape_ascii());
+            None
+        }
     }
-    fd
 }
 
 // Whether argument i is a single dash.
-fn is_dash(i: usize) -> bool {
+fn is_dash(rt: &impl Env, i: usize) -> bool {
     let mut word = [0u8; 2];
-    let n = os::arg(i, &mut word);
+    let n = rt.arg(i, &mut word).unwrap_or(0);
     (n == 1) & (word[0] == b'-')
 }
 
@@ -44,87 +75,96 @@ fn empty_base() -> Imaged {
     }
 }
 
+// Reads until the buffer is full, the file ends or a read fails: how many bytes stand in it.
+fn read_full(mut from: impl Read + Drop, into: &mut [u8]) -> usize
+    ensures { result ≤ length into.new }
+{
+    let mut done = 0;
+    while done < into.len() {
+        let n = from.read(&mut into[done..]).unwrap_or(0);
+        if n == 0 {
+            break;
+        }
+        done += n;
+    }
+    done
+}
+
 // A base that can't be opened reads as no bytes: 17 at 0. No image is as long as the buffer.
-fn base() -> Imaged {
-    if is_dash(1) {
+fn base(rt: &impl Runtime) -> Imaged {
+    if is_dash(rt, 1) {
         return empty_base();
     }
-    let mut bytes = io::large_buffer();
-    let fd = open(1, false);
-    if fd < 0 {
-        return read::read_image(&[]);
-    }
-    let n = io::read_full(fd, &mut bytes);
-    libc::close(fd);
+    let mut bytes = [0u8; 65536];
+    let n = match open(rt, 1, false) {
+        Some(file) => read_full(file, &mut bytes),
+        None => 0,
+    };
     read::read_image(&bytes[..n])
 }
 
-fn show(n: u64, after: &[u8]) {
-    io::print_decimal(STDOUT_FILENO, n);
-    io::write_all(STDOUT_FILENO, after);
+// What can't be written is passed over: the new image doesn't depend on who reads the lines.
+fn show(rt: &impl Print, n: u64, after: &str) {
+    let _ = print!(rt; "{n}{after}");
 }
 
 // Number, and place or rule.
-fn refused(number: u64, value: u64) -> bool {
-    io::write_all(STDOUT_FILENO, b"base ");
-    show(number, b" ");
-    show(value, b"\n");
+fn refused(rt: &impl Print, number: u64, value: u64) -> bool {
+    let _ = rt.print("base ");
+    show(rt, number, " ");
+    show(rt, value, "\n");
     false
 }
 
 // Whether the base was read; if not, it prints why.
-fn accepted(told: Reading) -> bool {
+fn accepted(rt: &impl Print, told: Reading) -> bool {
     match told {
         Reading::Done => true,
-        Reading::Torn(at) => refused(17, at as u64),
-        Reading::BadKind(at) => refused(18, at as u64),
-        Reading::BadField(at) => refused(19, at as u64),
-        Reading::BadOrder(at) => refused(20, at as u64),
-        Reading::UnsoundState(rule) => refused(12, rule as u64),
+        Reading::Torn(at) => refused(rt, 17, at as u64),
+        Reading::BadKind(at) => refused(rt, 18, at as u64),
+        Reading::BadField(at) => refused(rt, 19, at as u64),
+        Reading::BadOrder(at) => refused(rt, 20, at as u64),
+        Reading::UnsoundState(rule) => refused(rt, 12, rule as u64),
     }
 }
 
-fn save(bytes: &[u8], n: usize) {
+fn save(rt: &impl Runtime, bytes: &[u8], n: usize) {
     if bytes.len() < n {
         return;
     }
-    let fd = open(3, true);
-    if fd < 0 {
+    let Some(mut file) = open(rt, 3, true) else {
         return;
+    };
+    if let Err(error) = file.write_all(&bytes[0..n]) {
+        let _ = fail(rt, "write", error);
     }
-    let ok = io::write_all(fd, &bytes[0..n]);
-    if !ok {
-        os::fail(b"write");
-    }
-    libc::close(fd);
 }
 
-fn run(start: Spare, feed: &[u8]) {
-    let end = player::play(start, feed);
-    let mut out = io::large_buffer();
+fn run(rt: &impl Runtime, start: Spare, feed: &[u8]) {
+    let end = player::play(rt, start, feed);
+    let mut out = [0u8; 65536];
     let told = write::write_image(end, &mut out);
     if let Writing::Done(n) = told {
-        save(&out, n);
+        save(rt, &out, n);
     }
 }
 
-fn main() {
-    let b = base();
+// The buffer has one byte more than a feed may have, so that a longer one is seen.
+fn main(rt: HostRuntime) {
+    let b = base(&rt);
     let told = b.told;
-    if !accepted(told) {
+    if !accepted(&rt, told) {
         return;
     }
-    let fd = open(2, false);
-    if fd < 0 {
+    let Some(file) = open(&rt, 2, false) else {
         return;
-    }
+    };
     let mut feed = [0u8; 65537];
-    let n = io::read_full(fd, &mut feed);
-    libc::close(fd);
+    let n = read_full(file, &mut feed);
     if 65536 < n {
-        io::write_all(STDOUT_FILENO, b"long\n");
+        let _ = rt.println("long");
         return;
     }
     let start = b.spare;
-    run(start, &feed[..n]);
+    run(&rt, start, &feed[..n]);
 }

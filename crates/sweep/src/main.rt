@@ -5,7 +5,8 @@
 #![tactic(auto)]
 
 use image::{Imaged, Reading, Spare, Writing, read, write};
-use libc::STDOUT_FILENO;
+use std::io;
+use std::io::Read;
 
 // The answers since the sum was last begun, and how often each came in all: first done, then the refusals 17 to 20, then
 // the rules 0 to 9 of the refusal 12.
@@ -130,61 +131,57 @@ fn cuts(start: Tally, image: &[u8], out: &mut [u8]) -> Tally {
     t
 }
 
-fn line(what: &[u8], k: u64, n: u64) {
-    io::write_all(STDOUT_FILENO, what);
-    io::print_decimal(STDOUT_FILENO, k);
-    io::write_all(STDOUT_FILENO, b" ");
-    io::print_decimal(STDOUT_FILENO, n);
-    io::write_all(STDOUT_FILENO, b"\n");
+fn line(rt: &impl Print, what: &str, k: u64, n: u64) -> io::Result<()> {
+    println!(rt; "{what}{k} {n}")
 }
 
-fn byte_line(i: usize, n: u64) {
-    line(b"byte ", i as u64, n);
+fn byte_line(rt: &impl Print, i: usize, n: u64) -> io::Result<()> {
+    line(rt, "byte ", i as u64, n)
 }
 
-fn bytes(image: &mut [u8], out: &mut [u8]) -> [u64; 15] {
+fn bytes(rt: &impl Print, image: &mut [u8], out: &mut [u8]) -> io::Result<[u64; 15]> {
     let mut t = begun([0; 15]);
     let mut i: usize = 0;
     while i < image.len() {
         let counts = t.counts;
         t = changed(begun(counts), image, i, out);
-        byte_line(i, t.sum);
+        byte_line(rt, i, t.sum)?;
         i += 1;
     }
-    t.counts
+    Ok(t.counts)
 }
 
-fn count_line(k: usize, n: u64) {
+fn count_line(rt: &impl Print, k: usize, n: u64) -> io::Result<()> {
     if k == 0 {
-        line(b"answer ", 0, n);
-        return;
+        return line(rt, "answer ", 0, n);
     }
     if k < 5 {
-        line(b"answer ", k as u64 + 16, n);
-        return;
+        return line(rt, "answer ", k as u64 + 16, n);
     }
-    line(b"answer 12 rule ", k as u64 - 5, n);
+    line(rt, "answer 12 rule ", k as u64 - 5, n)
 }
 
-fn count_lines(counts: [u64; 15]) {
+fn count_lines(rt: &impl Print, counts: [u64; 15]) -> io::Result<()> {
     let mut k: usize = 0;
     while k < 15 {
-        count_line(k, counts[k]);
+        count_line(rt, k, counts[k])?;
         k += 1;
     }
+    Ok(())
 }
 
-fn sweep(image: &mut [u8]) {
+fn sweep(rt: &impl Print, image: &mut [u8]) -> io::Result<()> {
     let mut out = [0u8; image::LONGEST];
-    let b = bytes(image, &mut out);
+    let b = bytes(rt, image, &mut out)?;
     let t = cuts(begun(b), image, &mut out);
-    line(b"cuts ", image.len() as u64, t.sum);
+    line(rt, "cuts ", image.len() as u64, t.sum)?;
     let c = t.counts;
-    count_lines(c);
+    count_lines(rt, c)
 }
 
-fn main() {
-    let mut input = io::large_buffer();
-    let n = io::read_full(0, &mut input);
-    sweep(&mut input[..n]);
+// No image is as long as what is read: one that is longer has extra bytes.
+fn main(rt: HostRuntime) -> io::Result<()> {
+    let mut input = Vec::new(rt.alloc());
+    rt.reader().take(65536).read_to_end(&mut input)?;
+    sweep(&rt, input.as_mut_slice())
 }

@@ -8,9 +8,10 @@ ghost use Rattle.std.specs.Prelude.{◌≤◌, length};
 use feed::events::Step;
 use feed::{events, numbers};
 use image::{Reading, Spare, Writing, read, write};
-use libc::{STDIN_FILENO, STDOUT_FILENO};
 use records::{layout, writing};
 use state::{ActiveLock, LockState};
+use std::io;
+use std::io::Read;
 
 // ---- the list
 // The bytes from start to end. Not good: the list has no such part.
@@ -105,18 +106,17 @@ fn records_after(list: &[u8], last: Part) -> Part
 }
 
 // ---- what is printed
-fn say(t: &[u8]) {
-    io::write_all(STDOUT_FILENO, t);
+fn say(rt: &impl Print, t: &str) -> io::Result<()> {
+    rt.print(t)
 }
 
-fn show(what: &[u8], n: u64) {
-    say(what);
-    io::print_decimal(STDOUT_FILENO, n);
+fn show(rt: &impl Print, what: &str, n: u64) -> io::Result<()> {
+    print!(rt; "{what}{n}")
 }
 
-fn bad_list(at: usize) {
-    show(b"vectors: bad list at ", at as u64);
-    say(b"\n");
+fn bad_list(rt: &impl Print, at: usize) -> io::Result<()> {
+    show(rt, "vectors: bad list at ", at as u64)?;
+    say(rt, "\n")
 }
 
 // The place of the next case; the cases so far, those of them that differ, and how often each answer came.
@@ -129,25 +129,33 @@ struct Tally {
 }
 
 // A line for each way in which case k differs.
-fn differs(k: u64, want: u64, got: u64, kept: bool, gone: bool) {
+fn differs(rt: &impl Print, k: u64, want: u64, got: u64, kept: bool, gone: bool) -> io::Result<()> {
     if want != got {
-        show(b"case ", k);
-        show(b": number want ", want);
-        show(b" got ", got);
-        say(b"\n");
+        show(rt, "case ", k)?;
+        show(rt, ": number want ", want)?;
+        show(rt, " got ", got)?;
+        say(rt, "\n")?;
     }
     if !kept {
-        show(b"case ", k);
-        say(b": next image differs\n");
+        show(rt, "case ", k)?;
+        say(rt, ": next image differs\n")?;
     }
     if !gone {
-        show(b"case ", k);
-        say(b": removed differs\n");
+        show(rt, "case ", k)?;
+        say(rt, ": removed differs\n")?;
     }
+    Ok(())
 }
 
 // kept: the next image is the list's. gone: the removed locks are.
-fn counted(t: Tally, want: u64, got: u64, kept: bool, gone: bool) -> Tally {
+fn counted(
+    rt: &impl Print,
+    t: Tally,
+    want: u64,
+    got: u64,
+    kept: bool,
+    gone: bool,
+) -> io::Result<Tally> {
     let k = std::num::wrapping_add_u64(t.cases, 1);
     let mut counts = t.counts;
     if got < 22 {
@@ -156,40 +164,41 @@ fn counted(t: Tally, want: u64, got: u64, kept: bool, gone: bool) -> Tally {
     }
     let mut differ = t.differ;
     if (want != got) | !kept | !gone {
-        differs(k, want, got, kept, gone);
+        differs(rt, k, want, got, kept, gone)?;
         differ = std::num::wrapping_add_u64(differ, 1);
     }
-    Tally {
+    Ok(Tally {
         at: t.at,
         cases: k,
         differ,
         counts,
-    }
+    })
 }
 
-fn count_line(k: usize, n: u64) {
+fn count_line(rt: &impl Print, k: usize, n: u64) -> io::Result<()> {
     if n == 0 {
-        return;
+        return Ok(());
     }
-    show(b"", k as u64);
-    show(b": ", n);
-    say(b" cases\n");
+    show(rt, "", k as u64)?;
+    show(rt, ": ", n)?;
+    say(rt, " cases\n")
 }
 
-fn count_lines(counts: [u64; 22]) {
+fn count_lines(rt: &impl Print, counts: [u64; 22]) -> io::Result<()> {
     let mut k: usize = 0;
     while k < 22 {
-        count_line(k, counts[k]);
+        count_line(rt, k, counts[k])?;
         k += 1;
     }
+    Ok(())
 }
 
-fn totals(t: Tally) {
+fn totals(rt: &impl Print, t: Tally) -> io::Result<()> {
     let counts = t.counts;
-    count_lines(counts);
-    show(b"vectors: ", t.cases);
-    show(b" cases, ", t.differ);
-    say(b" differ\n");
+    count_lines(rt, counts)?;
+    show(rt, "vectors: ", t.cases)?;
+    show(rt, " cases, ", t.differ)?;
+    say(rt, " differ\n")
 }
 
 // ---- a case
@@ -259,47 +268,56 @@ fn gone(locks: [ActiveLock; LockState::ACTIVE], n: usize, bytes: &[u8]) -> bool 
 }
 
 fn stepped<'a>(
+    rt: &impl Print,
     t: Tally,
     s: Step,
     image: &'a [u8],
     want: u64,
     next: &'a [u8],
     removed: &'a [u8],
-) -> Tally {
+) -> io::Result<Tally> {
     let told = s.told;
     let event = told.event;
     let locks = told.removed;
     let k = kept(s, image, next);
     let g = gone(locks, told.gone, removed);
-    counted(t, want, numbers::number(event), k, g)
+    counted(rt, t, want, numbers::number(event), k, g)
 }
 
 // The image was refused: nothing is written.
-fn refused<'a>(t: Tally, want: u64, got: u64, next: &'a [u8], removed: &'a [u8]) -> Tally {
-    counted(t, want, got, next.len() == 0, removed.len() == 0)
+fn refused<'a>(
+    rt: &impl Print,
+    t: Tally,
+    want: u64,
+    got: u64,
+    next: &'a [u8],
+    removed: &'a [u8],
+) -> io::Result<Tally> {
+    counted(rt, t, want, got, next.len() == 0, removed.len() == 0)
 }
 
 fn case<'a>(
+    rt: &impl Print,
     t: Tally,
     image: &'a [u8],
     record: &'a [u8],
     want: u64,
     next: &'a [u8],
     removed: &'a [u8],
-) -> Tally {
+) -> io::Result<Tally> {
     let r = read::read_image(image);
     let told = r.told;
     match told {
         Reading::Done => {
             let spare = r.spare;
             let s = feed::step(spare, record, 0);
-            stepped(t, s, image, want, next, removed)
+            stepped(rt, t, s, image, want, next, removed)
         }
-        Reading::Torn(_) => refused(t, want, 17, next, removed),
-        Reading::BadKind(_) => refused(t, want, 18, next, removed),
-        Reading::BadField(_) => refused(t, want, 19, next, removed),
-        Reading::BadOrder(_) => refused(t, want, 20, next, removed),
-        Reading::UnsoundState(_) => refused(t, want, 12, next, removed),
+        Reading::Torn(_) => refused(rt, t, want, 17, next, removed),
+        Reading::BadKind(_) => refused(rt, t, want, 18, next, removed),
+        Reading::BadField(_) => refused(rt, t, want, 19, next, removed),
+        Reading::BadOrder(_) => refused(rt, t, want, 20, next, removed),
+        Reading::UnsoundState(_) => refused(rt, t, want, 12, next, removed),
     }
 }
 
@@ -314,14 +332,14 @@ fn moved(t: Tally, at: usize) -> Tally {
 }
 
 // The case at the tally's place, which then is the place after it. A case that isn't whole leaves the tally as it is.
-fn turn(t: Tally, list: &[u8]) -> Tally {
+fn turn(rt: &impl Print, t: Tally, list: &[u8]) -> io::Result<Tally> {
     let image = bytes_after(list, bytes_at(list, t.at, 0));
     let record = bytes_after(list, image);
     let want = word_after(list, record);
     let next = bytes_after(list, want);
     let removed = records_after(list, next);
     if !removed.good {
-        return t;
+        return Ok(t);
     }
     let a = image.start;
     let b = image.end;
@@ -334,11 +352,11 @@ fn turn(t: Tally, list: &[u8]) -> Tally {
     let i = removed.start;
     let j = removed.end;
     let w = number(&list[e..f]);
-    let n = case(t, &list[a..b], &list[c..d], w, &list[g..h], &list[i..j]);
-    moved(n, j)
+    let n = case(rt, t, &list[a..b], &list[c..d], w, &list[g..h], &list[i..j])?;
+    Ok(moved(n, j))
 }
 
-fn replay(list: &[u8]) {
+fn replay(rt: &impl Print, list: &[u8]) -> io::Result<()> {
     let mut t = Tally {
         at: 0,
         cases: 0,
@@ -347,24 +365,22 @@ fn replay(list: &[u8]) {
     };
     let mut at: usize = 0;
     while at < list.len() {
-        t = turn(t, list);
+        t = turn(rt, t, list)?;
         let next = t.at;
         if next <= at {
-            bad_list(at);
-            return;
+            return bad_list(rt, at);
         }
         at = next;
     }
-    totals(t);
+    totals(rt, t)
 }
 
-// The buffer has one byte more than a list may have, so that a longer one is seen.
-fn main() {
-    let mut buffer = [0u8; 65537];
-    let n = io::read_full(STDIN_FILENO, &mut buffer);
-    if 65536 < n {
-        bad_list(65536);
-        return;
+// One byte more is read than a list may have, so that a longer one is seen.
+fn main(rt: HostRuntime) -> io::Result<()> {
+    let mut list = Vec::new(rt.alloc());
+    rt.reader().take(65537).read_to_end(&mut list)?;
+    if 65536 < list.len() {
+        return bad_list(&rt, 65536);
     }
-    replay(&buffer[..n]);
+    replay(&rt, list.as_slice())
 }
