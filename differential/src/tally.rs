@@ -66,6 +66,18 @@ impl Tally {
             .sum()
     }
 
+    /// The same without the calls that are made once more, whatever the answer.
+    #[must_use]
+    pub fn count_plain(&self, answer: &str) -> u64 {
+        self.seen
+            .iter()
+            .filter(|((function, seen), _)| {
+                seen == answer && !AGAIN.iter().any(|word| function.contains(word))
+            })
+            .map(|(_, count)| count)
+            .sum()
+    }
+
     /// How many entries of boards changed with an operation.
     #[must_use]
     pub fn changed_entries(&self, operation: &str) -> u64 {
@@ -102,10 +114,14 @@ pub fn label(told: &Told) -> String {
     }
 }
 
-/// Every answer that can be had through the boundary. 12 with rule 0 can't: what breaks it in an
-/// image is 19 or 20. 11.0 is proved never to be given.
-pub const REACHABLE: [&str; 42] = [
+/// Every answer that can be had through the boundary where no record is written. 14 can't: records
+/// hold whole ids. 12 with rule 0 can't: what breaks it in an image is 19 or 20. 11.0 is proved
+/// never to be given.
+pub const REACHABLE: [&str; 40] = [
     "0", "1", "2", "3", "4", "5", "6", "7", "7 no ECU", "8", "9", "10", "11.1", "11.2", "11.3",
-    "11.4", "12.1", "12.2", "12.3", "12.4", "12.5", "12.6", "12.7", "12.8", "12.9", "13", "14",
-    "15", "16", "17", "18", "19", "20", "21", "22", "23", "24", "25", "26", "27", "28", "29",
+    "11.4", "12.1", "12.2", "12.3", "12.4", "12.5", "12.6", "12.7", "12.8", "12.9", "13", "15",
+    "16", "17", "18", "19", "20", "21", "22", "23", "24", "25", "26", "27", "28",
 ];
+
+/// Answers that only the calls give that write a record, which take any list.
+pub const OF_A_WRITER: [&str; 2] = ["14", "29"];

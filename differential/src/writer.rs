@@ -3,7 +3,7 @@
 //! [`crate::pair`] has the functions that read records. Every record is held to the bytes of the
 //! judge's own writer.
 
-use cablegorse::{Replica, library};
+use cablegorse::{LIST_LIMIT, ListTooLong, Replica, library};
 use oracle::{
     asked::Asked,
     board,
@@ -321,8 +321,9 @@ impl Run {
                 assert_eq!(record, own.sent, "{operation:?}");
                 check_step(&step, &own.full, &replica, subject.image);
             }
-            Err(refusal) => {
-                assert_eq!(refusal.number(), own.full.applied.told.number);
+            Err(ListTooLong { ids }) => {
+                assert_eq!(own.full.applied.told.number, 29);
+                assert!(ids > LIST_LIMIT, "{operation:?}");
                 assert_eq!(replica.image(), subject.image);
             }
         }
@@ -470,7 +471,8 @@ impl Run {
                     due_of_a_list(kind, words),
                     "{kind}, {words} words"
                 );
-                run.tally.see("lists about the limit", label(&told));
+                run.tally
+                    .see("write_record, lists about the limit", label(&told));
             }
         }
         run.tally

@@ -98,7 +98,7 @@ fn record(line: &[u8]) -> Result<Vec<u8>, String> {
     arguments.end()?;
     let mut record = operation
         .record(sequence)
-        .map_err(|refusal| refusal.to_string())?;
+        .map_err(|too_long| too_long.to_string())?;
     if let Some(cut) = cut {
         if cut > record.len() {
             return Err(format!("cut={cut}: the record has {} bytes", record.len()));
@@ -403,7 +403,7 @@ INSERT subject=1 scope=ecu:5 covers=5 children= | children: no such argument her
 INSERT subject=65536 scope=ecu:5 covers=5 | subject: 65536 is out of range
 ADOPT | children is missing
 ADOPT children=1,,2 | children: '' is no number
-ADOPT children=LONG | 29 ListTooLong: a record holds at most 64 ids";
+ADOPT children=LONG | 65 ids; a record holds at most 64";
 
     /// What is wrong with a line, and that nothing else is.
     #[test]

@@ -9,7 +9,7 @@ mod replica;
 mod types;
 
 pub use names::{NameTable, Named, TABLE_BYTES};
-pub use record::{ACTIVE_BYTES, DEFUNCT_BYTES, HEAD_BYTES, LIST_LIMIT, Operation};
+pub use record::{ACTIVE_BYTES, DEFUNCT_BYTES, HEAD_BYTES, LIST_LIMIT, ListTooLong, Operation};
 pub use refusal::{Reason, Refusal, ResponseClass, response_class};
 pub use replica::{Done, Replica, Run, Step};
 pub use types::{

@@ -3,6 +3,8 @@
 //! document 01's "Records": a length (u16, bytes after itself), a kind (u16), a body; all
 //! little-endian.
 
+use std::fmt;
+
 use crate::{
     library::{self, Asked, RECORD_LIMIT},
     refusal::Refusal,
@@ -83,6 +85,21 @@ pub enum Operation {
     },
 }
 
+/// An operation lists more than 64 ids, which no record holds.
+#[derive(Clone, Copy, Debug, PartialEq, Eq)]
+pub struct ListTooLong {
+    /// How many it lists.
+    pub ids: usize,
+}
+
+impl fmt::Display for ListTooLong {
+    fn fmt(&self, f: &mut fmt::Formatter<'_>) -> fmt::Result {
+        write!(f, "{} ids; a record holds at most {LIST_LIMIT}", self.ids)
+    }
+}
+
+impl std::error::Error for ListTooLong {}
+
 impl Operation {
     /// The record's kind.
     #[must_use]
@@ -152,18 +169,30 @@ impl Operation {
         (asked, words.collect())
     }
 
-    /// The feed record of this operation with this sequence number, as the library writes it;
-    /// [`Refusal::ListTooLong`] where the operation lists more than [`LIST_LIMIT`] ids.
-    pub fn record(&self, sequence: u32) -> Result<Vec<u8>, Refusal> {
+    /// The feed record of this operation with this sequence number, as the library writes it.
+    ///
+    /// # Panics
+    ///
+    /// As [`Replica::perform`](crate::Replica::perform).
+    pub fn record(&self, sequence: u32) -> Result<Vec<u8>, ListTooLong> {
         let (asked, list) = self.asked();
         let mut record = vec![0; RECORD_LIMIT];
         let told = library::write_record(sequence, &asked, &list, &mut record);
-        match Refusal::from_told(&told) {
-            Some(refusal) => Err(refusal),
-            None => {
-                record.truncate(told.values[0] as usize);
-                Ok(record)
-            }
+        if let Some(refusal) = Refusal::from_told(&told) {
+            return Err(self.unwritten(refusal));
+        }
+        record.truncate(told.values[0] as usize);
+        Ok(record)
+    }
+
+    /// Why the library writes no record of it: of what can be said here, only for its list (29).
+    pub(crate) fn unwritten(&self, refusal: Refusal) -> ListTooLong {
+        assert!(
+            refusal == Refusal::ListTooLong,
+            "the library wrote no record: {refusal}"
+        );
+        ListTooLong {
+            ids: self.listed().len(),
         }
     }
 }

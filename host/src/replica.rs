@@ -8,7 +8,9 @@ use crate::{
         self, Applied, BOARD_BYTES, EXPIRED_LIMIT, IMAGE_LIMIT, Part, RECORD_LIMIT, REMOVED_LIMIT,
         Told, question,
     },
-    record::{self, ACTIVE_BYTES, DEFUNCT_BYTES, HEAD_BYTES, Head, Operation, empty_image},
+    record::{
+        self, ACTIVE_BYTES, DEFUNCT_BYTES, HEAD_BYTES, Head, ListTooLong, Operation, empty_image,
+    },
     refusal::Refusal,
     types::{Active, Coverage, Defunct, Holder, LockId, OnEcu, Scope, TesterPresent},
 };
@@ -186,7 +188,7 @@ impl Replica {
     /// let lowest = Some(lock.lock.id);
     /// assert_eq!(replica.on_ecu(5), Some(OnEcu { locks: 1, lowest }));
     /// assert_eq!(replica.on_ecu(7), Some(OnEcu { locks: 0, lowest: None }));
-    /// # Ok::<(), cablegorse::Refusal>(())
+    /// # Ok::<(), cablegorse::ListTooLong>(())
     /// ```
     ///
     /// # Panics
@@ -342,7 +344,7 @@ impl Replica {
     /// let run = spare.follow(&arrived);
     /// assert_eq!((run.applied, run.stop), (1, None));
     /// assert_eq!(spare, primary);
-    /// # Ok::<(), cablegorse::Refusal>(())
+    /// # Ok::<(), cablegorse::ListTooLong>(())
     /// ```
     ///
     /// # Panics
@@ -392,8 +394,8 @@ impl Replica {
 
     /// As a primary: performs the operation, and gives the record to send on, which has the number
     /// that was due. It is to be sent whatever the answer, since the number moved on. Where no
-    /// record can hold the operation ([`Refusal::ListTooLong`]) nothing changed, and there is
-    /// nothing to send.
+    /// record can hold the operation ([`ListTooLong`]) nothing changed, and there is nothing to
+    /// send.
     ///
     /// One call of the library does both, so that nothing can be applied and something else sent.
     /// With a board kept it is two: the record, and then what that record says.
@@ -401,23 +403,17 @@ impl Replica {
     /// # Panics
     ///
     /// As [`Replica::apply`].
-    pub fn perform(&mut self, operation: &Operation) -> Result<(Vec<u8>, Step), Refusal> {
-        let (record, step) = match self.board {
-            None => self.perform_at_once(operation),
-            // The library has no such call with a board.
-            Some(_) => {
-                let record = operation.record(self.expected())?;
-                let step = self.apply(&record, 0);
-                (record, step)
-            }
-        };
-        match step.answer {
-            Err(refusal) if !step.applied => Err(refusal),
-            _ => Ok((record, step)),
+    pub fn perform(&mut self, operation: &Operation) -> Result<(Vec<u8>, Step), ListTooLong> {
+        if self.board.is_none() {
+            return self.perform_at_once(operation);
         }
+        // The library has no such call with a board.
+        let record = operation.record(self.expected())?;
+        let step = self.apply(&record, 0);
+        Ok((record, step))
     }
 
-    fn perform_at_once(&mut self, operation: &Operation) -> (Vec<u8>, Step) {
+    fn perform_at_once(&mut self, operation: &Operation) -> Result<(Vec<u8>, Step), ListTooLong> {
         let (asked, list) = operation.asked();
         let Room {
             next,
@@ -428,7 +424,10 @@ impl Replica {
         let applied = library::perform(&self.image, &asked, &list, next, removed, expired, sent);
         let record = sent[..applied.place].to_vec();
         let step = self.step(&applied, &record, 0);
-        (record, step)
+        match step.answer {
+            Err(refusal) if !step.applied => Err(operation.unwritten(refusal)),
+            _ => Ok((record, step)),
+        }
     }
 
     /// 001's `delete_defunct`: false where there is no such lock on this scope, 26 where it is

@@ -2,7 +2,7 @@
 //! 02, C-12 through the crate: what a primary performs is what its record says.
 
 use cablegorse::{
-    Active, Coverage, Lock, LockId, Operation, Refusal, Replica, Scope,
+    Active, Coverage, ListTooLong, Lock, LockId, Operation, Refusal, Replica, Scope,
     library::{
         self, Applied, Asked, EXPIRED_LIMIT, IMAGE_LIMIT, Part, RECORD_LIMIT, REMOVED_LIMIT,
     },
@@ -221,7 +221,7 @@ fn too_many_ids_are_not_performed() {
         if watched {
             primary.watch();
         }
-        assert_eq!(primary.perform(&adopt), Err(Refusal::ListTooLong));
+        assert_eq!(primary.perform(&adopt), Err(ListTooLong { ids: 65 }));
         assert_eq!(primary, Replica::empty());
     }
 }

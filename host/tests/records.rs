@@ -4,8 +4,8 @@
 use std::array;
 
 use cablegorse::{
-    ACTIVE_BYTES, Active, Coverage, DEFUNCT_BYTES, Defunct, EcuSet, LIST_LIMIT, Lock, LockId,
-    NameTable, Named, Operation, Overlap, Refusal, Scope, TABLE_BYTES,
+    ACTIVE_BYTES, Active, Coverage, DEFUNCT_BYTES, Defunct, EcuSet, LIST_LIMIT, ListTooLong, Lock,
+    LockId, NameTable, Named, Operation, Overlap, Refusal, Scope, TABLE_BYTES,
     library::{self, Asked, RECORD_LIMIT, Told},
 };
 
@@ -54,7 +54,11 @@ fn an_active_record_by_hand() {
 
 #[test]
 fn records_come_back() {
-    for active in [full(), plain()] {
+    let mut plain = full();
+    plain.parent = None;
+    plain.lock.scope = Scope::Vehicle;
+    plain.lock.coverage = Coverage::Vehicle;
+    for active in [full(), plain] {
         assert_eq!(Active::decode(&active.encode()), Ok(active));
     }
     assert_eq!(broken().encode().len(), DEFUNCT_BYTES);
@@ -82,6 +86,60 @@ fn wrong_records_are_refused_in_order() {
     assert_eq!(with(22, 2), bad, "a flag");
     assert_eq!(with(23, 0), bad, "the whole vehicle with a set");
     assert_eq!(with(74, 0), bad, "no parent, but an id");
+}
+
+#[test]
+fn lengths_of_feed_records() {
+    let (id, lock) = (LockId::default(), full());
+    let ids = vec![id; LIST_LIMIT];
+    let operations = [
+        (Operation::InsertActive { lock }, 16, 93),
+        (
+            Operation::InsertVehicle {
+                lock,
+                children: ids.clone(),
+            },
+            17,
+            95 + 1024,
+        ),
+        (
+            Operation::Renew {
+                id,
+                expires: 1,
+                now: 2,
+                metadata: None,
+            },
+            18,
+            43,
+        ),
+        (Operation::Delete { id }, 19, 22),
+        (Operation::BeginExpiration { id, now: 1 }, 20, 30),
+        (
+            Operation::CommitReplacement {
+                roots: vec![],
+                lock,
+                broken_by: 1,
+                broken_at: 2,
+            },
+            21,
+            107,
+        ),
+        (Operation::AcknowledgeDefunct { id }, 22, 22),
+        (Operation::ExpireDefunct { now: 1 }, 23, 14),
+    ];
+    for (operation, kind, length) in operations {
+        let record = operation.record(0x0403_0201).unwrap();
+        assert_eq!(record[..2], u16::to_le_bytes(length));
+        assert_eq!(record[2..4], u16::to_le_bytes(kind));
+        assert_eq!(record[4..8], [1, 2, 3, 4]);
+        assert_eq!(record.len(), usize::from(length) + 2);
+    }
+    let mut children = ids;
+    children.push(id);
+    assert_eq!(
+        Operation::InsertVehicle { lock, children }.record(0),
+        Err(ListTooLong { ids: 65 })
+    );
 }
 
 /// A feed record packed by hand, from document 01's "Records": the kind, and the body after the
@@ -254,7 +312,7 @@ fn lists_are_even_and_short() {
         }
     }
     for (operation, _) in listing(full(), &ids(65)) {
-        assert_eq!(operation.record(0), Err(Refusal::ListTooLong));
+        assert_eq!(operation.record(0), Err(ListTooLong { ids: 65 }));
     }
     let [_, (longest, _)] = listing(full(), &ids(LIST_LIMIT as u8));
     assert_eq!(
