@@ -6,4 +6,4 @@ use Rattle.screen.proofs.id_in.Goals as goal
 pub returns : goal.returns
 returns c =
     let s = c.args.bytes.now in
-    id_of_words s (bytes_of_lem s (λ i. omega (arith, c.shared_slice_known-1.given i))) c.requires c.words_of-words.ensures
+    id_of_words s (bytes_of_lem s (λ i. omega (arith, c.type_inv.bytes i))) c.requires c.words_of-words.ensures
