@@ -1,6 +1,6 @@
 -- 02, C-11: "After every operation the board equals one worked out afresh from the state", over whatever is done to a running
 -- spare, one deed after the other. The calls with a board meet the very spares that the plain calls meet, each with its own board.
---     every-board   from any sound spare with its own board; from empty; from any accepted image
+--     every_board   from any sound spare with its own board; from empty; from any accepted image
 -- Assumes nothing.
 use Rattle.std.proofs.Common.{◌≡◌, ℕ, List, [], ◌∷◌, map, refl, ap, ◌∙◌, ap₂}
 use Rattle.state.specs.declared.LockState.{LockState}

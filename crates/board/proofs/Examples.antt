@@ -1,6 +1,6 @@
 -- 02, C-11 computed. Lock 1 is on ECU 5, lock 2 on a group of ECUs 5 and 6, lock 3 on the whole vehicle, lock 4 on an ECU with an
 -- empty set:
---     at_five, at-six, at-seven   the counts, the vehicle's lock among them, and the lowest id
+--     at_five, at_six, at_seven   the counts, the vehicle's lock among them, and the lowest id
 --     at_none                     zeros where no lock is; an empty set covers nothing
 --     came, went, replaced        which locks came or went with an insertion, a deletion, a replacement
 --     renewed, refused            with a renewal and with a refused insertion none did

@@ -1,6 +1,6 @@
 -- 02, C-11: "only ECUs covered by a lock that came or went are written". The update, over any buffer of a board's size:
---     kept-outside     the entry of any other ECU keeps its bytes
---     written-inside   the entry of such an ECU is worked out afresh
+--     kept_outside     the entry of any other ECU keeps its bytes
+--     written_inside   the entry of such an ECU is worked out afresh
 --     follows          so of the board of l it makes the board of l', where the entries of the other ECUs are the same in both
 -- Assumes nothing.
 use Rattle.std.proofs.Common.{◌≡◌, ℕ, ◌<◌, cond, List, [], length, refl, ◌∙◌}

@@ -1,8 +1,8 @@
 -- What an entry tells. 02, C-11: "the number of active locks covering it and the lowest id among them, zeros if none".
 --     count_none    the number is 0 exactly where no lock covers the ECU
---     lowest-none   there the id is zeros
---     lowest-is     else, in an ascending list, it is the id of a lock that covers the ECU, and none of these has a lower one
---     one-subject   of the locks counted those that are not vehicle locks have one subject (rule 8)
+--     lowest_none   there the id is zeros
+--     lowest_is     else, in an ascending list, it is the id of a lock that covers the ECU, and none of these has a lower one
+--     one_subject   of the locks counted those that are not vehicle locks have one subject (rule 8)
 -- Assumes nothing.
 use Rattle.std.proofs.Common.{◌≡◌, ℕ, ◌<◌, ◌≤◌, eqb, ◌⊎◌, ◌↔◌, List, length, ap, inl, inr, arith, length-take, eqb-true}
 use Rattle.lists.specs.Tests.{Yes, No}

@@ -1,8 +1,8 @@
 -- 02, C-11: "only ECUs covered by a lock that came or went are written". That is enough: the entry of any other ECU is the same
 -- before and after, of every state at all.
---     call-moves             any of the eight operations, answered or refused
---     delete-defunct-moves   a deletion of a defunct entry moves no active lock
---     step-moves             a step over the feed
+--     call_moves             any of the eight operations, answered or refused
+--     delete_defunct_moves   a deletion of a defunct entry moves no active lock
+--     step_moves             a step over the feed
 -- Assumes nothing.
 use Rattle.std.proofs.Common.{◌≡◌, ℕ, Bool, List, length, take, sym, refl, ap, ◌∙◌}
 use Rattle.lists.specs.Tests.{No}

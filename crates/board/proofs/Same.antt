@@ -1,7 +1,7 @@
 -- An entry goes by the ids of the locks that cover its ECU, in the list's order. So it stays the same
---     insert-same   where a lock comes that doesn't cover the ECU
+--     insert_same   where a lock comes that doesn't cover the ECU
 --     map_same      where locks change and keep their ids and coverages: adoption, renewal
---     cut-same      where locks go that don't cover it: a tree, or several roots' trees
+--     cut_same      where locks go that don't cover it: a tree, or several roots' trees
 -- Assumes nothing.
 use Rattle.std.proofs.Common.{◌≡◌, ℕ, Bool, true, false, cond, ltb, List, [], ◌∷◌, map, length, sym, refl, ap, ◌∙◌, ap₂}
 use mathlib.Core.Option.{some}

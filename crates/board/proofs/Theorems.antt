@@ -1,12 +1,12 @@
 -- 02, C-11, of the three calls with a board: `perform`, `delete_defunct`, a step over the feed.
---     board-keeps, delete-defunct-keeps, step-keeps-board   "After every operation the board equals one worked out afresh from
+--     board_keeps, delete_defunct_keeps, step_keeps_board   "After every operation the board equals one worked out afresh from
 --                       the state": of a sound state and its own board the call is the plain one, and the board left is the
 --                       next state's own
 --     as_plain          with a board that matches the call answers what the plain one answers, removed locks and state included
---     mismatch-leaves   "A board handed in that doesn't match its state is refused and left": 28, and all is as it was
---     unsound-first     "28 BoardMismatch, after 12": an unsound state is refused by 12 whatever the board, which is left
---     fresh-matches     a board worked out afresh is the one that matches
--- as_plain, mismatch-leaves and unsound-first are of `perform`; with `delete-defunct-` or `step-` before the name, of the other
+--     mismatch_leaves   "A board handed in that doesn't match its state is refused and left": 28, and all is as it was
+--     unsound_first     "28 BoardMismatch, after 12": an unsound state is refused by 12 whatever the board, which is left
+--     fresh_matches     a board worked out afresh is the one that matches
+-- as_plain, mismatch_leaves and unsound_first are of `perform`; with `delete-defunct-` or `step-` before the name, of the other
 -- two. Assumes nothing.
 use Rattle.std.proofs.Common.{◌≡◌, ℕ, ◌≤◌, cond, ◌⊎◌, List, ◌++◌, length, take, drop, sym, refl, ap, ◌∙◌, inl, inr, take_at, le-ltb}
 use Rattle.lists.specs.Tests.{Yes, No}

@@ -1,7 +1,7 @@
 -- An operation takes parts that don't apply as zero, and looks at ids only where it has some: so what is read back of a request is
 -- done as the request itself.
---     act-normal  the request with such parts zero
---     act-listed  without the words where it has no ids
+--     act_normal  the request with such parts zero
+--     act_listed  without the words where it has no ids
 -- Assumes nothing.
 use mathlib.Core.Path.{◌≡◌, refl, ap}
 use mathlib.Core.Bool.{Bool, true, false, cond}

@@ -1,9 +1,9 @@
 -- The library's door, over what its calls are proved to answer (`apply_of`, `delete_of`, `follow_of`):
---     apply-door    where part is 2, the bytes written are not none and read back as exactly the spare that the step leaves;
+--     apply_door    where part is 2, the bytes written are not none and read back as exactly the spare that the step leaves;
 --                   in every other part every byte of every buffer stays
 --     chain_run     record after record, image to image, is the feed's run on the spare
---     delete-door   the same of cablegorse_delete_defunct
---     follow-door   the same of cablegorse_follow: its image is the plain run's over the chunk
+--     delete_door   the same of cablegorse_delete_defunct
+--     follow_door   the same of cablegorse_follow: its image is the plain run's over the chunk
 --     same_bytes    what is written without a test is what the tested writer writes
 -- Assumes nothing.
 use mathlib.Core.Path.{◌≡◌, refl, sym, ap, ◌∙◌, subst}
@@ -201,7 +201,7 @@ pub chain_run : (f : List ℕ) → Bytes f → {s last : List ℕ} {at end : ℕ
 chain_run f y {s} ys ch sp e = typed_run f y ch sp e (accepted_typed s ys sp e)
 
 -- ---- cablegorse_delete_defunct: nothing written and every byte kept, or the image of the spare without the entry, from which
--- chains go on (typed-run)
+-- chains go on (typed_run)
 module _ (s : List ℕ) (i : LockId) (subject : ℕ) (n : List ℕ) where
   pub data Deleted (c : Left) : Type 0 where
     kept : c.told.written ≡ 0 → c.next ≡ n → Deleted c

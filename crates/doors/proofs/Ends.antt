@@ -1,8 +1,8 @@
 -- The two ends of a feed at the library's door (02, C-12): "a spare that began equal and has applied as many records are equal states,
 -- whatever was lost, repeated or reordered on the way".
---     two-ends-door  a primary calls cablegorse_perform, image to image; a spare of the same first image calls cablegorse_follow on
+--     two_ends_door  a primary calls cablegorse_perform, image to image; a spare of the same first image calls cablegorse_follow on
 --                    the records that it received: its image is byte for byte the primary's after as many calls as it has applied
---     last-door      so where it has applied all, the primary's last one
+--     last_door      so where it has applied all, the primary's last one
 -- Assumes nothing.
 use mathlib.Core.Path.{◌≡◌, refl, sym, ap, ap₂, subst, ◌∙◌}
 use mathlib.Core.List.{List, [], ◌∷◌, ◌++◌, map}

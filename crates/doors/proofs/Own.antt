@@ -1,10 +1,10 @@
 -- A primary at the library's door (02, C-12), over what cablegorse_perform is proved to answer (`perform_of`):
---     typed-request   the request of an operation whose numbers are within their types is within its fields
---     typed-sendable  so where neither 14 nor 29 is told it can be sent under any number
---     perform-door    where part is 2, what was written is the record of the operation that was done, under the number that was due,
+--     typed_request   the request of an operation whose numbers are within their types is within its fields
+--     typed_sendable  so where neither 14 nor 29 is told it can be sent under any number
+--     perform_door    where part is 2, what was written is the record of the operation that was done, under the number that was due,
 --                     and cablegorse_apply of it on the same image leaves and tells the same; in every other part every byte of
 --                     every buffer stays
---     perform-sends, perform-keeps  the two ways of it
+--     perform_sends, perform_keeps  the two ways of it
 -- Assumes nothing.
 use mathlib.Core.Path.{◌≡◌, refl, sym, ap, subst, ◌∙◌}
 use mathlib.Core.Bool.{Bool, true, false, not, cond}

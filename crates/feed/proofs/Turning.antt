@@ -1,8 +1,8 @@
 -- The theorems on one record.
---     in-turn, out-of-turn      a record whose number is due gives its operation's definition on the same arguments; any
+--     in_turn_lem, out_of_turn      a record whose number is due gives its operation's definition on the same arguments; any
 --                               other changes nothing but the place
---     act-due                   after an applied operation the next number is due, refused or not
---     step-applies, step-passes the first two of a record in the bytes of a feed
+--     act_due                   after an applied operation the next number is due, refused or not
+--     step_applies, step_passes the first two of a record in the bytes of a feed
 -- Assumes nothing.
 use Rattle.std.proofs.Common.{◌≡◌, ℕ, ◌^◌, ◌<◌, false, eqb, leb, List, sym, refl, ap, ◌∙◌, subst, arith, eq-eqb, eqb-true}
 use Rattle.lists.proofs.Tests.{cond_true, cond_both}

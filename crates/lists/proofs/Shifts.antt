@@ -1,5 +1,5 @@
 -- Elements of an array moved one place up or down, as a loop does it, and what comes out.
---     shiftedUp a j n      of n used places, those from j on are one place up; place j is still as it was
+--     shifted_up a j n      of n used places, those from j on are one place up; place j is still as it was
 --     shiftedDown a i j    the places past i up to j are one place down
 -- Assumes nothing.
 use mathlib.Core.Path.{◌≡◌, refl, sym, ap, ◌∙◌}

@@ -1,6 +1,6 @@
 -- The first refusal of a check, by what the code looks for: the first element that is refused; of ids, the lowest.
 --     refuses c a   the check c refuses a
---     toldBy c o    what c says of what was found
+--     told_by c o    what c says of what was found
 -- Assumes nothing.
 use mathlib.Core.Path.{◌≡◌, refl, sym, ap, ◌∙◌}
 use mathlib.Core.Bool.{Bool, true, false, cond}

@@ -53,7 +53,7 @@ fn judge(a: ActiveLock, revision: u64, expires: u64, now: u64) -> Renewal
 }
 
 // The lock's expires_at moves on, its metadata too where some is given. The state that comes of it is sound and is not tested
-// again (C-21; promises, closing-idle).
+// again (C-21; promises, closing_idle).
 pub fn renew(
     mut s: LockState,
     id: LockId,

@@ -1,8 +1,8 @@
 -- Three theorems on the state, for every state at all.
 --     ..-never         no insertion or replacement answers the closing check's Invariant: a sound state's next state is
 --                      sound, and an unsound state is answered by 12
---     accepted-again   what the test accepts it accepts again after any operation, refused or not
---     closing-idle     so the closing check that renewal, deletion, acknowledgement and both expiries do without would pass
+--     accepted_again   what the test accepts it accepts again after any operation, refused or not
+--     closing_idle     so the closing check that renewal, deletion, acknowledgement and both expiries do without would pass
 -- The contracts of the code's functions say that their results are those of these definitions, so this is demand 3 of the
 -- code: from LockState::empty() or any state that the test accepts, every state met is accepted. Assumes nothing.
 use mathlib.Core.Path.{◌≡◌, refl, ap}
@@ -66,7 +66,7 @@ accepted_again s e (acknowledge i) = acknowledge_comes (λ r. broken_rule r.stat
 accepted_again s e (expire_defunct now) = expire_defunct_comes (λ r. broken_rule r.state ≡ Sound) s now (λ b. e) (λ b l g. g)
 
 -- 02, C-21: "after renewal, deletion, acknowledgement and both expiries this closing check can't fail". It can't after the
--- three others either (accepted-again): `shortened` says of which operations it is asked here
+-- three others either (accepted_again): `shortened` says of which operations it is asked here
 pub closing_idle : (s : LockState) → broken_rule s ≡ Sound → (o : Op) → Yes (shortened o) → is_sound (broken_rule (step_on s o)) ≡ true
 closing_idle s e o h = ap is_sound (accepted_again s e o)
 

@@ -1,5 +1,5 @@
 -- What a feed record can hold. The numbers are within the types of the code, so of whatever the code is handed only the list's
--- count can be refused (crates/doors, proofs/Own.antt, typed-sendable). Assumes nothing.
+-- count can be refused (crates/doors, proofs/Own.antt, typed_sendable). Assumes nothing.
 use Rattle.std.specs.Prelude.{◌≡◌, true, List, ℕ, ◌^◌, ◌≤◌, ◌<◌}
 use Rattle.lists.specs.Tests.{No}
 use Rattle.lists.specs.Lists.{Mem}

@@ -27,7 +27,7 @@ ecu_in coverage Vehicle = false
 ecu_in coverage (Ecu n) = covers coverage n
 ecu_in coverage (FunctionalGroup n) = false
 
--- a number for each scope, no two alike (proofs/Laws.antt, scope-one)
+-- a number for each scope, no two alike (proofs/Laws.antt, scope_one)
 unfoldable pub scope_code : ScopeKey → ℕ
 scope_code Vehicle = 0
 scope_code (Ecu n) = n * 2 + 1

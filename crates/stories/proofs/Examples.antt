@@ -1,12 +1,12 @@
 -- 02, C-20 computed, from the empty state by operations: subject 1 locks ECU 5 (lock 1, which it renews), subject 2 breaks that
 -- (lock 2), subject 3 breaks that (lock 3). What is told then, and whether the claim holds:
 --     acknowledged, expired     2 goes by either, 1 has the same holder, and the count does fall
---     first-gone                1 goes, and 2, which remains, tells what it told
---     last-revision, -expiry    at the last revision 8 is told, and the entry is gone all the same
+--     first_gone                1 goes, and 2, which remains, tells what it told
+--     last_revision_lem, -expiry    at the last revision 8 is told, and the entry is gone all the same
 --     said                      of clearing and of renewal it is stated, in any order
 --     fed                       so of a record that acknowledges; of one that deletes only where it is out of turn
 --     inserted, vehicle         a vehicle lock of subject 2 supersedes 2, and no entry names its id
---     old-copy                  a copy of 1 from before tells another holder: it names an entry that is gone
+--     old_copy                  a copy of 1 from before tells another holder: it names an entry that is gone
 --     named                     the condition on insertion is needed: lock 3 goes, and one with its id comes, which 2 still names
 --     deletion, expiration      that lock goes again by either, and another story is told
 --     replacement               the one that lock 3 came by told another story

@@ -1,10 +1,10 @@
 -- 02, C-20, of the operations as they are called: on every sound state, what is left keeps every remaining entry's story,
 -- whatever was answered, 8 included (the entries are gone then too).
---     acknowledge-story, expire-story, delete-defunct-story       always
---     insert-story, vehicle-story                                 where, after it, no remaining entry names the new id
---     insert-new-story, vehicle-new-story                         so where none names it before
---     renew-story                                                 always
---     step-story                                                  all of these that a feed asks for in one
+--     acknowledge_story, expire_story, delete_defunct_story       always
+--     insert_story, vehicle_story                                 where, after it, no remaining entry names the new id
+--     insert_new_story, vehicle_new_story                         so where none names it before
+--     renew_story                                                 always
+--     step_story                                                  all of these that a feed asks for in one
 -- Assumes nothing.
 use mathlib.Core.Path.{◌≡◌, refl, sym, subst}
 use mathlib.Core.Bool.{Bool}

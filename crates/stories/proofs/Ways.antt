@@ -1,6 +1,6 @@
 -- What can be followed from an id (Follows), after a change of the state.
---     drop-story     an entry goes: who is followed past it comes to the same holder, through no more entries
---     active-story   active locks change, and at every entry's target the same subject holds: the way is the same
+--     drop_story     an entry goes: who is followed past it comes to the same holder, through no more entries
+--     active_story   active locks change, and at every entry's target the same subject holds: the way is the same
 -- Assumes nothing.
 use mathlib.Core.Path.{◌≡◌, refl, sym, ap, subst, ◌∙◌}
 use mathlib.Core.Bool.{true}

@@ -1,5 +1,5 @@
 -- The takeover, over any element that has a number and whose acting keeps a state sound.
---     only-in-turn  only the elements in turn count
+--     only_in_turn  only the elements in turn count
 --     takeover      a spare that is fed numbered elements in turn, with any out of turn mixed in between, ends exactly as the
 --                   spare that was fed them alone
 -- Assumes nothing.

@@ -1,7 +1,7 @@
 -- The two ends of a feed as bytes.
---     two-ends-bytes   a spare that runs over the records received, as the writer wrote them, one after the other, ends as a primary
+--     two_ends_bytes   a spare that runs over the records received, as the writer wrote them, one after the other, ends as a primary
 --                      that has done as many operations as the spare has applied records
---     two-ends-follow  the same of a chunk: every receipt is read, those that count are applied, and it ends at its end
+--     two_ends_follow  the same of a chunk: every receipt is read, those that count are applied, and it ends at its end
 -- Assumes nothing.
 use mathlib.Core.Path.{◌≡◌, refl, sym, ap, subst, ◌∙◌}
 use mathlib.Core.Bool.{Bool, true, false, cond}

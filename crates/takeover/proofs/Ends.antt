@@ -1,7 +1,7 @@
 -- The two ends of a feed.
 --     two_ends    the spare ends as a primary that has done as many operations as the spare has applied records
---     equal-ends  so two spares that have applied as many are equal, and (primary-end) one that has applied all is the primary
---     own-done    what a primary's own step does is what is said of it here
+--     equal_ends  so two spares that have applied as many are equal, and (primary_end) one that has applied all is the primary
+--     own_done    what a primary's own step does is what is said of it here
 -- Assumes nothing.
 use mathlib.Core.Path.{◌≡◌, refl, sym, ap, subst, ◌∙◌}
 use mathlib.Core.List.{List, [], ◌∷◌}

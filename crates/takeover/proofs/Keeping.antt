@@ -1,7 +1,7 @@
 -- Every state met is sound, over any bytes.
---     perform-state  a call leaves the state that the operation leaves in a direct call
+--     perform_state  a call leaves the state that the operation leaves in a direct call
 --     step_keeps     a sound spare stays sound over any record
---     run-keeps      and over any bytes: from empty, and from any accepted image
+--     run_keeps      and over any bytes: from empty, and from any accepted image
 -- Assumes nothing.
 use mathlib.Core.Path.{◌≡◌, refl, ap, ◌∙◌}
 use mathlib.Core.List.{List}

@@ -1,7 +1,7 @@
 -- "An applied operation moves the expected number on even if refused by 1..11 or 13; nothing else does."
---     moves-on       where the number of a step's event is 0 to 11 or 13, the next number is due
---     nothing-else   with any other number the spare stays as it is
---     perform-moves  so no operation that is applied answers 12 or 14
+--     moves_on       where the number of a step's event is 0 to 11 or 13, the next number is due
+--     nothing_else   with any other number the spare stays as it is
+--     perform_moves  so no operation that is applied answers 12 or 14
 -- Assumes nothing.
 use mathlib.Core.Path.{◌≡◌, refl, ap, subst}
 use mathlib.Core.Bool.{Bool, true, cond}

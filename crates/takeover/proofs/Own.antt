@@ -1,5 +1,5 @@
 -- The primary's own step is the step of a spare that reads the record which is sent: it can't do one thing and send another.
---     own-step  whatever stands before and after the record
+--     own_step  whatever stands before and after the record
 -- Assumes nothing.
 use mathlib.Core.Path.{◌≡◌, refl, ap, ◌∙◌}
 use mathlib.Core.List.{List, ◌++◌}

@@ -1,6 +1,6 @@
 -- What comes in turn out of any receipts, over any element that is numbered in turn.
---     turn-picked  of the receipts of elements numbered in turn, those that come in turn are the first so many, in their order
---     any-ends     so a spare that is fed the receipts ends as the spare that was fed the first so many
+--     turn_picked  of the receipts of elements numbered in turn, those that come in turn are the first so many, in their order
+--     any_ends     so a spare that is fed the receipts ends as the spare that was fed the first so many
 -- Assumes nothing.
 use mathlib.Core.Path.{◌≡◌, refl, sym, ap, ◌∙◌}
 use mathlib.Core.Bool.{Bool, true, false, cond}

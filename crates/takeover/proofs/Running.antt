@@ -1,6 +1,6 @@
 -- The takeover of feeds as bytes: a use of the theorem over any element.
---     run-fed         a run over bytes ends as the records in them, places aside, make it end
---     takeover-bytes  so of two feeds, the second with records out of turn mixed in, a spare ends alike
+--     run_fed         a run over bytes ends as the records in them, places aside, make it end
+--     takeover_bytes  so of two feeds, the second with records out of turn mixed in, a spare ends alike
 -- Assumes nothing.
 use mathlib.Core.Path.{◌≡◌, refl, sym, ap, ◌∙◌}
 use mathlib.Core.Bool.{Bool, true, false, cond}

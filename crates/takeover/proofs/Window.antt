@@ -1,7 +1,7 @@
 -- What is told of a record at the edges of the window: of record j by a spare that has applied k, numbers counted from the first's.
---     told-ahead, told-repeat  within it a later one is 16 and an earlier one 15, each with the number that is due
---     told-early .. told-late  the answers turn at 2^31
---     round-early, round-late  a whole round off a record would be applied: there the window of equal ends ends
+--     told_ahead, told_repeat  within it a later one is 16 and an earlier one 15, each with the number that is due
+--     told_early .. told_late  the answers turn at 2^31
+--     round_early, round_late  a whole round off a record would be applied: there the window of equal ends ends
 -- Assumes nothing.
 use mathlib.Core.Path.{◌≡◌, ap₂, ◌∙◌}
 use mathlib.Core.Logic.{◌⊎◌, inl, inr, ⊎_elim}
