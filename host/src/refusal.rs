@@ -183,8 +183,9 @@ pub enum Refusal {
     /// 21: a buffer is too short.
     ShortOutput {
         /// Bytes needed: for [`library::apply`] of the next image, the removed locks and the
-        /// expired ids, for [`library::perform`] also of the record; else one number and zeros.
-        needed: [usize; 4],
+        /// expired ids; else one number and zeros. [`library::perform`] tells the record's beside
+        /// them.
+        needed: [usize; 3],
     },
     /// 22: a name of more than 64 bytes.
     NameTooLong,
@@ -252,7 +253,7 @@ impl Refusal {
             19 => Self::BadField { offset },
             20 => Self::BadOrder { offset },
             21 => Self::ShortOutput {
-                needed: [v0, v1, v2, v3].map(|bytes| bytes as usize),
+                needed: [v0, v1, v2].map(|bytes| bytes as usize),
             },
             22 => Self::NameTooLong,
             23 => Self::NamesFull,

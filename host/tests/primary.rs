@@ -155,6 +155,8 @@ fn all_four_or_none() {
             assert_eq!((told.written, told.gone, told.lapsed), (0, 0, 0));
             assert!(left == outputs(lengths));
             let refusal = Refusal::from_told(&told.told);
+            let [next, removed, expired, _] = needed;
+            let needed = [next, removed, expired];
             assert_eq!(refusal, Some(Refusal::ShortOutput { needed }));
         }
         let mut exact = outputs(needed);

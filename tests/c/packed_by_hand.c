@@ -75,7 +75,7 @@ static void ask(uint32_t expected) {
 int main(int argc, char **argv) {
     static uint8_t feed[65536];
     if (argc != 3) {
-        fprintf(stderr, "usage: follow IMAGE FEED\n");
+        fprintf(stderr, "usage: packed_by_hand IMAGE FEED\n");
         return 2;
     }
     image_len = load(argv[1], image, sizeof image);

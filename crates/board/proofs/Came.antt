@@ -3,7 +3,7 @@
 --     came_or_went      of a sound state the locks by which the board is written are no others
 --     written_covered   so of any buffer of a board's size an entry keeps its bytes, or a lock that came or went covers its ECU
 --     none_written      and a call that leaves the active locks leaves every byte
--- of the eight operations; with `step-` before it, of a step over the feed. And of any state:
+-- of the eight operations; with `step_` before it, of a step over the feed. And of any state:
 --     refused_none      with an operation that was refused none came or went
 --     refused_left      so it leaves every byte. Assumes nothing.
 use Rattle.std.proofs.Common.{◌≡◌, ℕ, ◌<◌, Bool, cond, eqb, leb, ◌⊎◌, List, [], ◌∷◌, ◌++◌, map, length, take, sym, refl, ap, ◌∙◌, subst, ap₂, inl, inr, eq-eqb, ne_eqb, eqb-true}

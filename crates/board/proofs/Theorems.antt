@@ -6,7 +6,7 @@
 --     mismatch_leaves   "A board handed in that doesn't match its state is refused and left": 28, and all is as it was
 --     unsound_first     "28 BoardMismatch, after 12": an unsound state is refused by 12 whatever the board, which is left
 --     fresh_matches     a board worked out afresh is the one that matches
--- as_plain, mismatch_leaves and unsound_first are of `perform`; with `delete-defunct-` or `step-` before the name, of the other
+-- as_plain, mismatch_leaves and unsound_first are of `perform`; with `delete_defunct_` or `step_` before the name, of the other
 -- two. Assumes nothing.
 use Rattle.std.proofs.Common.{◌≡◌, ℕ, ◌≤◌, cond, ◌⊎◌, List, ◌++◌, length, take, drop, sym, refl, ap, ◌∙◌, inl, inr, take_at, le-ltb}
 use Rattle.lists.specs.Tests.{Yes, No}

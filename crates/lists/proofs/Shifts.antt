@@ -1,6 +1,6 @@
 -- Elements of an array moved one place up or down, as a loop does it, and what comes out.
 --     shifted_up a j n      of n used places, those from j on are one place up; place j is still as it was
---     shiftedDown a i j    the places past i up to j are one place down
+--     shifted_down a i j    the places past i up to j are one place down
 -- Assumes nothing.
 use mathlib.Core.Path.{◌≡◌, refl, sym, ap, ◌∙◌}
 use mathlib.Core.List.{List, [], ◌∷◌, ◌++◌, append_assoc}

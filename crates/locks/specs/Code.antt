@@ -1,5 +1,5 @@
 -- What only the contracts of the crate's own functions name: what one pass over the active locks finds, and the judgement
--- on a defunct entry. A reader need not believe or read any of it; the public contracts are the `..On` definitions alone.
+-- on a defunct entry. A reader need not believe or read any of it; the public contracts are the `.._on` definitions alone.
 use Rattle.std.specs.Prelude.{cond, List, ℕ, eqb}
 use Rattle.std.proofs.Math.Option.{Option, none, some}
 use Rattle.lists.specs.Lists.{any}

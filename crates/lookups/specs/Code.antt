@@ -1,5 +1,5 @@
 -- What only the contracts of the crate's own functions name: a reader of the reads need not believe or read any of it. The
--- public contracts are the `..On` definitions of Reads.antt alone, and the proofs join the two.
+-- public contracts are the `.._on` definitions of Reads.antt alone, and the proofs join the two.
 use Rattle.std.specs.Prelude.{Bool, true, List, ◌≡◌, ℕ, ◌<◌, length, get_or}
 use Rattle.lists.specs.Tests.{non, Yes}
 use Rattle.lists.specs.Lists.{any, Mem}

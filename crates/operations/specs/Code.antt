@@ -1,5 +1,5 @@
 -- What only the contracts of the crate's own functions name: a reader of the operations need not believe or read any of it.
--- The public contracts are the `..On` definitions of the other files alone, and the proofs join the two.
+-- The public contracts are the `.._on` definitions of the other files alone, and the proofs join the two.
 -- The lists in their places, as the code passes them from function to function; places in them; checks made in one go; the
 -- parts of a replacement and of an expiry.
 use Rattle.std.specs.Prelude.{Bool, true, false, cond, List, [], ◌∷◌, ◌++◌, map, ◌≡◌, ℕ, zero, suc, ◌+◌, ◌*◌, ◌≤◌, ◌<◌, eqb, ltb, length, get_or, take}

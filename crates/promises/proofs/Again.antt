@@ -1,5 +1,5 @@
 -- Three theorems on the state, for every state at all.
---     ..-never         no insertion or replacement answers the closing check's Invariant: a sound state's next state is
+--     .._never         no insertion or replacement answers the closing check's Invariant: a sound state's next state is
 --                      sound, and an unsound state is answered by 12
 --     accepted_again   what the test accepts it accepts again after any operation, refused or not
 --     closing_idle     so the closing check that renewal, deletion, acknowledgement and both expiries do without would pass

@@ -1,7 +1,7 @@
 -- In a sound state every operation's next state is sound again: insertions and replacement end with a check of it, which
 -- never fires; the five others make none. So each operation comes to a refusal that leaves the state, or to exactly the done
 -- result. A property of both is one of the operation.
---     ..-exactly   on a sound state: the judgement's answer, the removed locks and the next state
+--     .._exactly   on a sound state: the judgement's answer, the removed locks and the next state
 -- Assumes nothing.
 use mathlib.Core.Path.{◌≡◌, refl, sym, ◌∙◌}
 use mathlib.Core.Bool.{Bool, true, false, cond}

@@ -1,5 +1,5 @@
 -- Keeps: each operation that goes through leaves a sound state, over any limits k. A lock handed in has its plain form
--- (neatA), which `normal` gives it. Assumes nothing.
+-- (neat_a), which `normal` gives it. Assumes nothing.
 use mathlib.Core.Path.{◌≡◌, refl, sym, ap, ◌∙◌, subst}
 use mathlib.Core.Bool.{Bool}
 use mathlib.Core.List.Memᴰ

@@ -1,5 +1,5 @@
 -- Demand 2: "On every sound state each operation gives the Rust's next state, removed locks and error." What the one call
--- (crates/calls, performOn) gives on a sound state, all eight in one form: the answer, the locks removed (and the ids of the
+-- (crates/calls, perform_on) gives on a sound state, all eight in one form: the answer, the locks removed (and the ids of the
 -- entries that lapsed), the next state. They are judged and changed on the lists, over any limits k, with no test before and
 -- no check after; the next state is `step` of Steps.antt.
 use Rattle.std.specs.Prelude.{cond, List, [], ℕ, ltb, length}

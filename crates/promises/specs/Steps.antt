@@ -79,7 +79,7 @@ abbrev pub runs : Limits → Model → List Op → List Model
 runs k m [] = m ∷ []
 runs k m (o ∷ os) = m ∷ runs k (step k m o) os
 
--- ---- on the state, as the code's functions leave it (their contracts say r ≡ insertActiveOn s x, and so on)
+-- ---- on the state, as the code's functions leave it (their contracts say result ≡ insert_active_on s x, and so on)
 unfoldable pub step_on : LockState → Op → LockState
 step_on s (insert_active y) = (insert_active_on s y).state
 step_on s (insert_vehicle y ws) = (insert_vehicle_on s y ws).state

@@ -1,5 +1,5 @@
 -- Rule 9: the walk through the defunct entries ends. As a statement (Ends), and as the rule's test that meets no id twice
--- (meetsNone); the two agree, since a walk that ends meets no more ids than the table has. A test that counts entries alone
+-- (meets_none); the two agree, since a walk that ends meets no more ids than the table has. A test that counts entries alone
 -- (leaves) passes too. Assumes nothing.
 use mathlib.Core.Path.{◌≡◌, refl, sym, ap, ◌∙◌, subst}
 use mathlib.Core.Bool.{Bool, true}
