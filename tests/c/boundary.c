@@ -498,6 +498,21 @@ static void both_sides(void) {
     CHECK(a.sequence == 1 && a.place == 141 && a.written == image_len && field(4, 4) == 1 && sent[141] == 0x5a);
 }
 
+/* A record packed by hand is the one that is sent, and applied it leaves what performing leaves. */
+static void packed_by_hand(void) {
+    static uint8_t other[CABLEGORSE_IMAGE_LIMIT];
+    cablegorse_operation o = {.kind = CABLEGORSE_KIND_INSERT_ACTIVE, .hi = 99, .lo = 99, .w0 = 1 << 5, .expires = 1000,
+                              .subject = 9, .scope = CABLEGORSE_SCOPE_ECU, .number = 5,
+                              .coverage = CABLEGORSE_COVERAGE_SET};
+    start(0, 7);
+    cablegorse_applied a = cablegorse_perform(image, image_len, o, NULL, 0, other, sizeof other, removed, sizeof removed,
+                                              expired, sizeof expired, sent, sizeof sent);
+    insert(7, 99, CABLEGORSE_SCOPE_ECU, 5, 9, 1 << 5, 0);
+    cablegorse_applied b = apply(0, record, record_len);
+    CHECK(a.number == CABLEGORSE_DONE && a.place == record_len && memcmp(sent, record, record_len) == 0);
+    CHECK(memcmp(&a, &b, sizeof a) == 0 && memcmp(other, next, b.written) == 0);
+}
+
 /* The image's refusals, then 18, 19, 14, 29: part 1, and nothing is written. Follows both_sides: the defunct lock 1 is made
  * its own replacement. */
 static void not_performed(void) {
@@ -639,6 +654,7 @@ int main(void) {
     boards();
     record_fields();
     record_refusals();
+    packed_by_hand();
     both_sides();
     not_performed();
     empty_slices();
