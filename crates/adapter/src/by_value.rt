@@ -1,4 +1,5 @@
 // For callers that keep a state by value: each lends it to the thin function and gives back what it tells beside what is left.
+// One function over a closure would be no plainer: each call of it is as long as a body here, and is proved by itself besides.
 // SPDX-License-Identifier: Apache-2.0
 ghost use Rattle.std.specs.Prelude.{◌≡◌};
 ghost use Rattle.operations.specs.Insert.{insert_active_on};
@@ -15,7 +16,7 @@ use ids::LockId;
 use image::Spare;
 use locks::Dropped;
 use operations::answers::{
-    Acknowledged, DefunctsExpired, Deleted, Expired, Inserted, Renewed, Replaced,
+    Acknowledged, DefunctsExpired, Deleted, Expired, Inserted, Left, Renewed, Replaced,
 };
 use state::{ActiveLock, LockState, ScopeKey};
 
@@ -24,7 +25,7 @@ pub fn insert_active(s: LockState, lock: ActiveLock) -> Inserted
 {
     let mut held = s;
     let told = crate::insert_active(&mut held, lock);
-    Inserted { told, state: held }
+    Left { told, state: held }
 }
 
 pub fn insert_vehicle(s: LockState, lock: ActiveLock, list: &[u64]) -> Inserted
@@ -32,7 +33,7 @@ pub fn insert_vehicle(s: LockState, lock: ActiveLock, list: &[u64]) -> Inserted
 {
     let mut held = s;
     let told = crate::insert_vehicle(&mut held, lock, list);
-    Inserted { told, state: held }
+    Left { told, state: held }
 }
 
 pub fn renew(
@@ -47,7 +48,7 @@ pub fn renew(
 {
     let mut held = s;
     let told = crate::renew(&mut held, id, expires, clock, given, metadata);
-    Renewed { told, state: held }
+    Left { told, state: held }
 }
 
 pub fn delete(s: LockState, id: LockId) -> Deleted
@@ -55,7 +56,7 @@ pub fn delete(s: LockState, id: LockId) -> Deleted
 {
     let mut held = s;
     let told = crate::delete(&mut held, id);
-    Deleted { told, state: held }
+    Left { told, state: held }
 }
 
 pub fn begin_expiration(s: LockState, id: LockId, clock: u64) -> Expired
@@ -63,7 +64,7 @@ pub fn begin_expiration(s: LockState, id: LockId, clock: u64) -> Expired
 {
     let mut held = s;
     let told = crate::begin_expiration(&mut held, id, clock);
-    Expired { told, state: held }
+    Left { told, state: held }
 }
 
 pub fn commit_replacement(
@@ -77,7 +78,7 @@ pub fn commit_replacement(
 {
     let mut held = s;
     let told = crate::commit_replacement(&mut held, list, lock, by, at);
-    Replaced { told, state: held }
+    Left { told, state: held }
 }
 
 pub fn acknowledge_defunct(s: LockState, id: LockId) -> Acknowledged
@@ -85,7 +86,7 @@ pub fn acknowledge_defunct(s: LockState, id: LockId) -> Acknowledged
 {
     let mut held = s;
     let told = crate::acknowledge_defunct(&mut held, id);
-    Acknowledged { told, state: held }
+    Left { told, state: held }
 }
 
 pub fn expire_defunct(s: LockState, clock: u64) -> DefunctsExpired
@@ -93,7 +94,7 @@ pub fn expire_defunct(s: LockState, clock: u64) -> DefunctsExpired
 {
     let mut held = s;
     let told = crate::expire_defunct(&mut held, clock);
-    DefunctsExpired { told, state: held }
+    Left { told, state: held }
 }
 
 pub fn delete_defunct(s: LockState, id: LockId, scope: ScopeKey, subject: u16) -> Dropped
@@ -101,7 +102,7 @@ pub fn delete_defunct(s: LockState, id: LockId, scope: ScopeKey, subject: u16) -
 {
     let mut held = s;
     let told = crate::delete_defunct(&mut held, id, scope, subject);
-    Dropped { told, state: held }
+    Left { told, state: held }
 }
 
 pub fn step(spare: Spare, feed: &[u8], at: usize) -> Step

@@ -1,5 +1,7 @@
 // The adapter's one running state, lent for change: each function makes its operation on the state behind the reference,
-// leaves there the state that the operation gives, refused or not, and tells what the operation told.
+// leaves there the state that the operation gives, refused or not, and tells what the operation told. They differ in the
+// operation alone and stay each its own function: document 01 has the form ("thin functions take &mut to the state, call the
+// by-value operation and store its result").
 // SPDX-License-Identifier: Apache-2.0
 #![tactic(auto)]
 
@@ -15,34 +17,36 @@ ghost use Rattle.operations.specs.Acknowledge.{acknowledge_on, expire_defunct_on
 ghost use Rattle.locks.specs.Locks.{delete_defunct_on};
 ghost use Rattle.feed.specs.Feed.{step_on};
 ghost use Rattle.board.specs.Forms.{boarded, perform_board, delete_defunct_board, step_board};
-ghost use Rattle.adapter.specs.Lent.{inserted, renewed, deleted, expired, replaced, acknowledged, defuncts_expired, dropped, updated, held_after, update_on, stepped, board_performed, board_dropped, board_stepped};
+ghost use Rattle.adapter.specs.Lent.{left, updated, held_after, update_on, stepped, board_stepped};
 
-use board::{BoardDeed, BoardDropping, BoardTold};
+use board::{BoardDeed, BoardTold, Mismatch};
 use feed::events::Told;
 use ids::LockId;
 use image::Spare;
-use locks::{Dropping, Update};
-use operations::answers::{Acknowledgement, Answer, Lapse, Removal, Renewal, Replacement, Shed};
+use locks::{DroppingRefusal, UpdateRefusal};
+use operations::answers::{
+    Lapse, Refusal, Removal, RenewalRefusal, Replacement, Shed, StateRefusal,
+};
 use records::requests::Request;
 use state::{ActiveLock, LockState, ScopeKey};
 
 // What is told, and the generation that holds afterwards.
 #[derive(Clone, Copy)]
 struct Updated {
-    told: Update,
+    told: Result<u64, UpdateRefusal>,
     generation: u64,
 }
 
-pub fn insert_active(state: &mut LockState, lock: ActiveLock) -> Answer
-    ensures { inserted result state.new ≡ insert_active_on state.old lock }
+pub fn insert_active(state: &mut LockState, lock: ActiveLock) -> Result<(), Refusal>
+    ensures { left result state.new ≡ insert_active_on state.old lock }
 {
     let r = operations::insert::insert_active(*state, lock);
     *state = r.state;
     r.told
 }
 
-pub fn insert_vehicle(state: &mut LockState, lock: ActiveLock, list: &[u64]) -> Answer
-    ensures { inserted result state.new ≡ insert_vehicle_on state.old lock list.now }
+pub fn insert_vehicle(state: &mut LockState, lock: ActiveLock, list: &[u64]) -> Result<(), Refusal>
+    ensures { left result state.new ≡ insert_vehicle_on state.old lock list.now }
 {
     let r = operations::insert_vehicle::insert_vehicle(*state, lock, list);
     *state = r.state;
@@ -56,8 +60,8 @@ pub fn renew(
     clock: u64,
     given: bool,
     metadata: u32,
-) -> Renewal
-    ensures { renewed result state.new ≡ renew_on state.old id expires clock given metadata }
+) -> Result<(), RenewalRefusal>
+    ensures { left result state.new ≡ renew_on state.old id expires clock given metadata }
 {
     let r = operations::renew::renew(*state, id, expires, clock, given, metadata);
     *state = r.state;
@@ -65,7 +69,7 @@ pub fn renew(
 }
 
 pub fn delete(state: &mut LockState, id: LockId) -> Removal
-    ensures { deleted result state.new ≡ delete_on state.old id }
+    ensures { left result state.new ≡ delete_on state.old id }
 {
     let r = operations::delete::delete(*state, id);
     *state = r.state;
@@ -73,7 +77,7 @@ pub fn delete(state: &mut LockState, id: LockId) -> Removal
 }
 
 pub fn begin_expiration(state: &mut LockState, id: LockId, clock: u64) -> Lapse
-    ensures { expired result state.new ≡ begin_expiration_on state.old id clock }
+    ensures { left result state.new ≡ begin_expiration_on state.old id clock }
 {
     let r = operations::delete::begin_expiration(*state, id, clock);
     *state = r.state;
@@ -87,15 +91,15 @@ pub fn commit_replacement(
     by: u32,
     at: u64,
 ) -> Replacement
-    ensures { replaced result state.new ≡ commit_replacement_on state.old list.now lock by at }
+    ensures { left result state.new ≡ commit_replacement_on state.old list.now lock by at }
 {
     let r = operations::replace::commit_replacement(*state, list, lock, by, at);
     *state = r.state;
     r.told
 }
 
-pub fn acknowledge_defunct(state: &mut LockState, id: LockId) -> Acknowledgement
-    ensures { acknowledged result state.new ≡ acknowledge_on state.old id }
+pub fn acknowledge_defunct(state: &mut LockState, id: LockId) -> Result<bool, StateRefusal>
+    ensures { left result state.new ≡ acknowledge_on state.old id }
 {
     let r = operations::acknowledge::acknowledge_defunct(*state, id);
     *state = r.state;
@@ -103,29 +107,32 @@ pub fn acknowledge_defunct(state: &mut LockState, id: LockId) -> Acknowledgement
 }
 
 pub fn expire_defunct(state: &mut LockState, clock: u64) -> Shed
-    ensures { defuncts_expired result state.new ≡ expire_defunct_on state.old clock }
+    ensures { left result state.new ≡ expire_defunct_on state.old clock }
 {
     let r = operations::acknowledge::expire_defunct(*state, clock);
     *state = r.state;
     r.told
 }
 
-pub fn delete_defunct(state: &mut LockState, id: LockId, scope: ScopeKey, subject: u16) -> Dropping
-    ensures { dropped result state.new ≡ delete_defunct_on state.old id scope subject }
+pub fn delete_defunct(
+    state: &mut LockState,
+    id: LockId,
+    scope: ScopeKey,
+    subject: u16,
+) -> Result<bool, DroppingRefusal>
+    ensures { left result state.new ≡ delete_defunct_on state.old id scope subject }
 {
     let r = locks::delete_defunct(*state, id, scope, subject);
     *state = r.state;
     r.told
 }
 
-fn held_after(told: Update, generation: u64) -> u64
+fn held_after(told: Result<u64, UpdateRefusal>, generation: u64) -> u64
     ensures { result ≡ held_after told generation }
 {
     match told {
-        Update::UnsoundState(_) => generation,
-        Update::FunctionalGroupLocksHeld => generation,
-        Update::EcuLocksHeld => generation,
-        Update::Generation(n) => n,
+        Ok(n) => n,
+        Err(_) => generation,
     }
 }
 
@@ -140,7 +147,7 @@ fn update(s: LockState, generation: u64) -> Updated
 }
 
 // The generation is kept outside the state and is lent for change beside it; the state is only read.
-pub fn prepare_runtime_update(state: &LockState, generation: &mut u64) -> Update
+pub fn prepare_runtime_update(state: &LockState, generation: &mut u64) -> Result<u64, UpdateRefusal>
     ensures { updated result generation.new ≡ update_on state.now generation.old }
 {
     let r = update(*state, *generation);
@@ -164,7 +171,7 @@ pub fn perform_board(
     list: &[u64],
     board: &mut [u8],
 ) -> BoardDeed
-    ensures { boarded (board_performed result state.new) board.new ≡ perform_board state.old request list.now board.old }
+    ensures { boarded (left result state.new) board.new ≡ perform_board state.old request list.now board.old }
 {
     let r = board::perform(*state, request, list, board);
     *state = r.state;
@@ -177,8 +184,8 @@ pub fn delete_defunct_board(
     scope: ScopeKey,
     subject: u16,
     board: &[u8],
-) -> BoardDropping
-    ensures { board_dropped result state.new ≡ delete_defunct_board state.old id scope subject board.now }
+) -> Result<Result<bool, DroppingRefusal>, Mismatch>
+    ensures { left result state.new ≡ delete_defunct_board state.old id scope subject board.now }
 {
     let r = board::delete_defunct(*state, id, scope, subject, board);
     *state = r.state;

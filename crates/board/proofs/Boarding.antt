@@ -1,6 +1,6 @@
 -- The calls with a board, as the code makes them: the board is tested first, and 12 is looked for where it is another one, or told
 -- by the plain call, which then leaves the state and so the board. Assumes nothing.
-use Rattle.std.proofs.Common.{◌≡◌, ℕ, ◌<◌, ◌≤◌, Bool, true, false, cond, not, List, [], ◌++◌, length, drop, sym, refl, ap, ◌∙◌, lt-ltb, eq-eqb, ne_eqb}
+use Rattle.std.proofs.Common.{◌≡◌, ℕ, ◌<◌, ◌≤◌, Bool, true, false, cond, List, [], ◌++◌, length, drop, sym, refl, ap, ◌∙◌, lt-ltb, eq-eqb, ne_eqb}
 use Rattle.lists.specs.Tests.{Yes, No}
 use Rattle.lists.proofs.Tests.{against, cond_true, cond_false}
 use Rattle.ids.specs.declared.LockId.{LockId}
@@ -8,18 +8,19 @@ use Rattle.state.specs.declared.ScopeKey.{ScopeKey}
 use Rattle.state.specs.declared.ActiveLock.{ActiveLock}
 use Rattle.state.specs.declared.LockState.{LockState}
 use Rattle.state.specs.Model.{model_of}
-use Rattle.rules.specs.declared.Verdict.{Verdict}
-use Rattle.rules.specs.declared.Verdict.TheVariants.{Sound, Broken}
+use Rattle.std.specs.Prelude.{Result, Ok, Err, ⊤}
+use Rattle.rules.specs.declared.Unsound.{Unsound}
+use Rattle.rules.specs.declared.Unsound.TheVariants.{Rule}
 use Rattle.rules.specs.Rules.{broken_rule}
 use Rattle.lookups.specs.Reads.{on_sound, by_verdict}
 use Rattle.lookups.proofs.Verdicts.{on_broken}
-use Rattle.operations.specs.declared.answers.Inserted.{Inserted}
-use Rattle.operations.specs.declared.answers.Renewed.{Renewed}
-use Rattle.operations.specs.declared.answers.Deleted.{Deleted}
-use Rattle.operations.specs.declared.answers.Expired.{Expired}
-use Rattle.operations.specs.declared.answers.Replaced.{Replaced}
-use Rattle.operations.specs.declared.answers.Acknowledged.{Acknowledged}
-use Rattle.operations.specs.declared.answers.DefunctsExpired.{DefunctsExpired}
+use Rattle.operations.specs.Answers.{Inserted}
+use Rattle.operations.specs.Answers.{Renewed}
+use Rattle.operations.specs.Answers.{Deleted}
+use Rattle.operations.specs.Answers.{Expired}
+use Rattle.operations.specs.Answers.{Replaced}
+use Rattle.operations.specs.Answers.{Acknowledged}
+use Rattle.operations.specs.Answers.{DefunctsExpired}
 use Rattle.operations.specs.Insert.{insert_active_with, insert_active_on}
 use Rattle.operations.specs.Vehicle.{insert_vehicle_with, insert_vehicle_on}
 use Rattle.operations.specs.Renew.{renew_on}
@@ -33,58 +34,66 @@ use Rattle.calls.specs.Calls.{perform_on}
 use Rattle.image.specs.declared.Spare.{Spare}
 use Rattle.feed.specs.declared.events.Step.{Step}
 use Rattle.feed.specs.declared.taking.Placed.{Placed}
-use Rattle.feed.specs.declared.taking.Taken.{Taken}
-use Rattle.feed.specs.declared.taking.Taken.TheVariants as taken
+use Rattle.records.specs.declared.frame.Unread.{Unread}
 use Rattle.feed.specs.Feed.{taken_at, step_on}
 use Rattle.feed.proofs.Turning.{step_unsound}
-use Rattle.image.specs.declared.Writing.TheVariants as W
+use Rattle.image.specs.declared.WriteRefusal.TheVariants.{ShortOutput}
 use Rattle.locks.specs.Locks.{delete_defunct_on}
-use Rattle.board.specs.declared.Checked.{Checked}
-use Rattle.board.specs.declared.Checked.TheVariants.{UnsoundState, BoardMismatch, Matches}
-use Rattle.board.specs.declared.BoardDropped.{BoardDropped}
-use Rattle.board.specs.Board.{board_of, matches, check_on, updated}
-use Rattle.board.specs.Forms.{Boarded, boarded, by_check, on_board, fresh_on, told, mismatched, call_moved, call_board, perform_board, told_dropped, mismatched_dropped, delete_defunct_board, told_step, mismatched_step, request_moved, taken_moved, step_moved, step_updated, step_board, step_followed}
+use Rattle.board.specs.declared.BoardRefusal.{BoardRefusal}
+use Rattle.board.specs.declared.BoardRefusal.TheVariants.{UnsoundState, BoardMismatch}
+use Rattle.image.specs.Refusals.{not_written}
+use Rattle.board.specs.Board.{board_of, matches, unsound, check_on, updated}
+use Rattle.board.specs.Forms.{BoardDropped, Boarded, boarded, by_check, on_board, fresh_on, told, mismatched, call_moved, call_board, perform_board, told_dropped, mismatched_dropped, delete_defunct_board, told_step, mismatched_step, request_moved, taken_moved, step_moved, step_updated, step_board, step_followed}
 use Rattle.board.proofs.Kept.{nothing_moved, follows}
 use Rattle.board.proofs.Moved.{call_moves, step_moves}
 use Rattle.board.proofs.Rows.{size_board}
 use Rattle.board.proofs.Theorems.{matches_own, fresh_is}
 
--- ---- the test, as the code asks it
-pub asked_no : (r m : Bool) → r ≡ m → not r ≡ true → No m
-asked_no true m q e = absurd (against refl e)
-asked_no false m q e = sym q
+-- ---- past the sound-state test, by `?`
+pub check_err : (s : LockState) (b : List ℕ) (u : Unsound) → broken_rule s ≡ Err u → Err (unsound u) ≡ check_on s b
+unfolding check_on
+check_err s b (Rule n) e = on_broken s _ _ (broken_rule s) n refl e
 
-pub asked_yes : (r m : Bool) → r ≡ m → not r ≡ false → Yes m
-asked_yes true m q e = sym q
-asked_yes false m q e = absurd (against e refl)
+pub fresh_err : (s : LockState) (out : List ℕ) (u : Unsound) → broken_rule s ≡ Err u → boarded (Err (not_written u)) out ≡ fresh_on s out
+unfolding fresh_on
+fresh_err s out (Rule n) e = on_broken s _ _ (broken_rule s) n refl e
+
+-- of another board the plain call's own 12, else 28
+pub off_sound : {A : Type 0} (s : LockState) (r plain refused : A) → ((u : Unsound) → broken_rule s ≡ Err u → r ≡ plain) → (broken_rule s ≡ Ok tt → r ≡ refused) → r ≡ on_sound s (λ n. plain) refused
+unfolding on_sound
+off_sound s r plain refused f g = go (broken_rule s) f g
+  where
+    go : (v : Result ⊤ Unsound) → ((u : Unsound) → v ≡ Err u → r ≡ plain) → (v ≡ Ok tt → r ≡ refused) → r ≡ by_verdict v (λ n. plain) refused
+    go (Ok tt) f g = g refl
+    go (Err (Rule n)) f g = f (Rule n) refl
 
 -- ---- the two ways of any form
 module _ {A : Type 0} (s : LockState) (b : List ℕ) (plain refused : A) (after : List ℕ) where
-  abbrev judged : Verdict → Bool → Boarded A
-  judged v m = by_check (by_verdict v UnsoundState (cond m Matches BoardMismatch)) (boarded plain b) (boarded refused b) (boarded plain after)
+  abbrev judged : Result ⊤ Unsound → Bool → Boarded A
+  judged v m = by_check (by_verdict v (λ n. Err (UnsoundState n)) (cond m (Ok tt) (Err BoardMismatch))) (boarded plain b) (boarded refused b) (boarded plain after)
 
   -- another board: 12 is the plain call's, else 28
   pub off_board : No (matches s b) → boarded (on_sound s (λ n. plain) refused) b ≡ on_board s b plain refused after
   unfolding check_on on_sound
   off_board n = go (broken_rule s) (matches s b) n
     where
-      go : (v : Verdict) (m : Bool) → No m → boarded (by_verdict v (λ n. plain) refused) b ≡ judged v m
-      go Sound true e = absurd (against e refl)
-      go Sound false e = refl
-      go (Broken n) m e = refl
+      go : (v : Result ⊤ Unsound) (m : Bool) → No m → boarded (by_verdict v (λ n. plain) refused) b ≡ judged v m
+      go (Ok tt) true e = absurd (against e refl)
+      go (Ok tt) false e = refl
+      go (Err (Rule n)) m e = refl
 
   -- the state's own: the plain call, and the board after it
-  pub on_board_lem : Yes (matches s b) → ((n : ℕ) → broken_rule s ≡ Broken n → after ≡ b) → boarded plain after ≡ on_board s b plain refused after
+  pub on_board_lem : Yes (matches s b) → ((n : ℕ) → broken_rule s ≡ Err (Rule n) → after ≡ b) → boarded plain after ≡ on_board s b plain refused after
   unfolding check_on on_sound
   on_board_lem t h = go (broken_rule s) (matches s b) refl t
     where
-      go : (v : Verdict) (m : Bool) → broken_rule s ≡ v → Yes m → boarded plain after ≡ judged v m
-      go Sound true q e = refl
-      go Sound false q e = absurd (against refl e)
-      go (Broken n) m q e = ap (boarded plain) (h n q)
+      go : (v : Result ⊤ Unsound) (m : Bool) → broken_rule s ≡ v → Yes m → boarded plain after ≡ judged v m
+      go (Ok tt) true q e = refl
+      go (Ok tt) false q e = absurd (against refl e)
+      go (Err (Rule n)) m q e = ap (boarded plain) (h n q)
 
 -- ---- 12 leaves the state
-module _ (s : LockState) (n : ℕ) (e : broken_rule s ≡ Broken n) where
+module _ (s : LockState) (n : ℕ) (e : broken_rule s ≡ Err (Rule n)) where
   unsound_kept : (r : Request) (ws : List ℕ) → (perform_on s r ws).state ≡ s
   unfolding perform_on insert_active_on insert_active_with insert_vehicle_on insert_vehicle_with renew_on delete_on begin_expiration_on commit_replacement_on commit_replacement_with acknowledge_on expire_defunct_on
   unsound_kept (Insert x) ws = sym (ap (λ (r : Inserted). r.state) (on_broken s _ _ (broken_rule s) n refl e))
@@ -119,11 +128,11 @@ module _ (s : LockState) (b : List ℕ) where
   unfolding delete_defunct_board
   dropped_off i k subject n = ap (λ (x : Boarded BoardDropped). x.done) (off_board s b (told_dropped (delete_defunct_on s i k subject)) (mismatched_dropped s) b n) ∙ done_of (check_on s b)
     where
-      done_of : (c : Checked) → (by_check c (boarded (told_dropped (delete_defunct_on s i k subject)) b) (boarded (mismatched_dropped s) b) (boarded (told_dropped (delete_defunct_on s i k subject)) b)).done
+      done_of : (c : Result ⊤ BoardRefusal) → (by_check c (boarded (told_dropped (delete_defunct_on s i k subject)) b) (boarded (mismatched_dropped s) b) (boarded (told_dropped (delete_defunct_on s i k subject)) b)).done
           ≡ by_check c (told_dropped (delete_defunct_on s i k subject)) (mismatched_dropped s) (told_dropped (delete_defunct_on s i k subject))
-      done_of (UnsoundState n) = refl
-      done_of BoardMismatch = refl
-      done_of Matches = refl
+      done_of (Err (UnsoundState n)) = refl
+      done_of (Err BoardMismatch) = refl
+      done_of (Ok tt) = refl
 
 module _ (sp : Spare) (f : List ℕ) (at : ℕ) (b : List ℕ) where
   pub step_off : No (matches sp.state b) → boarded (on_sound sp.state (λ n. told_step (step_on sp f at)) (mismatched_step sp at)) b ≡ step_board sp f at b
@@ -149,8 +158,8 @@ own_size s b t = ap length (matches_own s b t) ∙ size_board (model_of s).activ
 
 -- a step's board, by what can be read at the place; and in a buffer of any size
 module _ (f : List ℕ) (at : ℕ) (st : Step) (b : List ℕ) where
-  pub taken_some : (p : Placed) → taken_at f at ≡ taken.Record p → updated (request_moved p.request st) (model_of st.spare.state).active b ≡ step_updated f at st b
-  taken_some p q = ap (λ (t : Taken). updated (taken_moved t st) (model_of st.spare.state).active b) (sym q)
+  pub taken_some : (p : Placed) → taken_at f at ≡ Ok p → updated (request_moved p.request st) (model_of st.spare.state).active b ≡ step_updated f at st b
+  taken_some p q = ap (λ (t : Result Placed Unread). updated (taken_moved t st) (model_of st.spare.state).active b) (sym q)
 
   pub taken_none : length b ≡ 4352 → step_moved f at st ≡ [] → b ≡ step_updated f at st b
   taken_none l q = sym (ap (λ (cs : List ActiveLock). updated cs (model_of st.spare.state).active b) q ∙ nothing_moved (model_of st.spare.state).active b l)
@@ -165,9 +174,9 @@ module _ (f : List ℕ) (at : ℕ) (st : Step) (b : List ℕ) where
 
 -- ---- a fresh board: 21, and the bytes
 module _ (s : LockState) (out : List ℕ) where
-  pub fresh_short : broken_rule s ≡ Sound → length out < 4352 → boarded (W.ShortOutput 4352) out ≡ fresh_on s out
+  pub fresh_short : broken_rule s ≡ Ok tt → length out < 4352 → boarded (Err (ShortOutput 4352)) out ≡ fresh_on s out
   unfolding fresh_on on_sound
   fresh_short e h = rw e (sym (cond_true _ _ _ (lt-ltb (length out) 4352 h)))
 
-  pub fresh_whole : broken_rule s ≡ Sound → 4352 ≤ length out → (b : List ℕ) → b ≡ board_of (model_of s).active → boarded (W.Done 4352) (b ++ drop 4352 out) ≡ fresh_on s out
-  fresh_whole e h b q = ap (λ (x : List ℕ). boarded (W.Done 4352) (x ++ drop 4352 out)) q ∙ sym (fresh_is s e out h)
+  pub fresh_whole : broken_rule s ≡ Ok tt → 4352 ≤ length out → (b : List ℕ) → b ≡ board_of (model_of s).active → boarded (Ok 4352) (b ++ drop 4352 out) ≡ fresh_on s out
+  fresh_whole e h b q = ap (λ (x : List ℕ). boarded (Ok 4352) (x ++ drop 4352 out)) q ∙ sym (fresh_is s e out h)

@@ -19,16 +19,16 @@ use Rattle.state.specs.declared.LockState.{LockState}
 use Rattle.state.specs.Locks.{akey, has_id, blank_active, normal}
 use Rattle.state.specs.Model.{Model, model_of, state_of, full}
 use Rattle.state.proofs.Laws.{back}
-use Rattle.rules.specs.declared.Verdict.TheVariants.{Sound}
+use Rattle.std.specs.Prelude.{Result, Ok, Err, ⊤}
 use Rattle.rules.specs.Rules.{broken_rule}
 use Rattle.rules.proofs.Sound.{sound_of}
 use Rattle.lookups.specs.Reads.{narrow}
-use Rattle.operations.specs.declared.answers.Answer.{Answer}
-use Rattle.operations.specs.declared.answers.Answer.TheVariants as answer
-use Rattle.operations.specs.declared.answers.Inserted.{Inserted}
-use Rattle.operations.specs.declared.answers.Deleted.{Deleted}
-use Rattle.operations.specs.declared.answers.Expired.{Expired}
-use Rattle.operations.specs.declared.answers.Replaced.{Replaced}
+use Rattle.operations.specs.declared.answers.Refusal.{Refusal}
+use Rattle.operations.specs.declared.answers.Refusal.TheVariants.{DuplicateId, DuplicateScope, ActiveLockNotFound, ParentNotFound, ParentNotVehicle, ReplacementScopeConflict, CoverageConflict, RevisionOverflow, NotRootVehicle, BadChild, OtherOwner, NotCovered, Invariant, UnsoundState, NoRoom, BadList}
+use Rattle.operations.specs.Answers.{Inserted}
+use Rattle.operations.specs.Answers.{Deleted}
+use Rattle.operations.specs.Answers.{Expired}
+use Rattle.operations.specs.Answers.{Replaced}
 use Rattle.operations.specs.Answers.{is_done, paper_of, deletion_paper, expiration_paper}
 use Rattle.operations.specs.Trees.{child_of, in_tree, start_parts, tree_parts, is_listed}
 use Rattle.operations.specs.Insert.{inserted_in, judge_insert}
@@ -42,8 +42,9 @@ use Rattle.calls.specs.declared.Performed.{Performed}
 use Rattle.calls.specs.Calls.{by_insert, by_delete, by_expiration, by_replace, perform_on, outcome_paper}
 use Rattle.image.specs.declared.Spare.{Spare}
 use Rattle.feed.specs.declared.events.Step.{Step}
-use Rattle.feed.specs.declared.taking.Taken.{Taken}
-use Rattle.feed.specs.declared.taking.Taken.TheVariants as taken
+use Rattle.records.specs.declared.frame.Unread.{Unread}
+use Rattle.records.specs.declared.frame.Unread.TheVariants.{Torn, BadKind, BadField}
+use Rattle.feed.specs.declared.taking.Placed.{Placed}
 use Rattle.feed.specs.Feed.{distance, numbered, body_in, taken_at, act_on, turn_on, taken_on, step_on, event_paper}
 use Rattle.feed.proofs.Turning.{step_sound}
 use Rattle.promises.proofs.Core.{Core, stands_of}
@@ -125,27 +126,27 @@ module _ (m : Model) (c : Core m) where
       )
 
 -- ---- where the answer isn't 0 nothing came
-done_number : (a : Answer) → eqb (paper_of a).number 0 ≡ is_done a
+done_number : (a : Result ⊤ Refusal) → eqb (paper_of a).number 0 ≡ is_done a
 unfolding paper_of is_done
-done_number answer.Done = refl
-done_number (answer.DuplicateId i) = refl
-done_number answer.DuplicateScope = refl
-done_number (answer.ActiveLockNotFound i) = refl
-done_number (answer.ParentNotFound i) = refl
-done_number (answer.ParentNotVehicle i) = refl
-done_number answer.ReplacementScopeConflict = refl
-done_number (answer.CoverageConflict i at) = refl
-done_number answer.RevisionOverflow = refl
-done_number answer.NotRootVehicle = refl
-done_number (answer.BadChild i) = refl
-done_number (answer.OtherOwner i j) = refl
-done_number (answer.NotCovered i j) = refl
-done_number answer.Invariant = refl
-done_number (answer.UnsoundState n) = refl
-done_number answer.NoRoom = refl
-done_number answer.BadList = refl
+done_number (Ok tt) = refl
+done_number (Err (DuplicateId i)) = refl
+done_number (Err DuplicateScope) = refl
+done_number (Err (ActiveLockNotFound i)) = refl
+done_number (Err (ParentNotFound i)) = refl
+done_number (Err (ParentNotVehicle i)) = refl
+done_number (Err ReplacementScopeConflict) = refl
+done_number (Err (CoverageConflict i at)) = refl
+done_number (Err RevisionOverflow) = refl
+done_number (Err NotRootVehicle) = refl
+done_number (Err (BadChild i)) = refl
+done_number (Err (OtherOwner i j)) = refl
+done_number (Err (NotCovered i j)) = refl
+done_number (Err Invariant) = refl
+done_number (Err (UnsoundState n)) = refl
+done_number (Err NoRoom) = refl
+done_number (Err BadList) = refl
 
-none_came : (c : Answer) (l : List ActiveLock) {a : ActiveLock} → No (is_done c) → Mem a (cond (eqb (paper_of c).number 0) l [] ++ []) → ⊥
+none_came : (c : Result ⊤ Refusal) (l : List ActiveLock) {a : ActiveLock} → No (is_done c) → Mem a (cond (eqb (paper_of c).number 0) l [] ++ []) → ⊥
 none_came c l {a} n u = Memᴰ.not-nil (subst (λ (b : Bool). Mem a (cond b l [] ++ [])) (done_number c ∙ n) u)
 
 none_moved : (r : Request) (p : Performed) → brings r ≡ [] → p.gone ≡ 0 → call_moved r p ≡ []
@@ -153,7 +154,7 @@ unfolding moved
 none_moved r p b g = rw (b, g) (cond_both (λ (l : List ActiveLock). l ++ [] ≡ []) [] [] (eqb (outcome_paper p.outcome).number 0) (λ t. refl) (λ t. refl))
 
 -- ---- the operations of a sound state
-module _ (s : LockState) (q : broken_rule s ≡ Sound) where
+module _ (s : LockState) (q : broken_rule s ≡ Ok tt) where
   core : Core (model_of s)
   core = (stands_of full (model_of s) (sound_of s q)).core
 
@@ -220,19 +221,19 @@ module _ (s : LockState) (q : broken_rule s ≡ Sound) where
   came_or_went (ExpireDefunct now) ws = none_turns (ExpireDefunct now) (perform_on s (ExpireDefunct now) ws) refl refl
 
 -- ---- a step over the feed
-module _ (sp : Spare) (q : broken_rule sp.state ≡ Sound) (f : List ℕ) (at : ℕ) where
-  abbrev StepCameOrWent : Taken → Step → Type 0
+module _ (sp : Spare) (q : broken_rule sp.state ≡ Ok tt) (f : List ℕ) (at : ℕ) where
+  abbrev StepCameOrWent : Result Placed Unread → Step → Type 0
   StepCameOrWent t st = (a : ActiveLock) → Mem a (taken_moved t st) → Turns (model_of sp.state).active (model_of st.spare.state).active a
 
-  taken_came_or_went : (t : Taken) → StepCameOrWent t (taken_on sp f at t)
+  taken_came_or_went : (t : Result Placed Unread) → StepCameOrWent t (taken_on sp f at t)
   unfolding turn_on act_on event_paper moved
-  taken_came_or_went (taken.Torn x) = λ a u. absurd (Memᴰ.not-nil u)
-  taken_came_or_went (taken.BadKind x) = λ a u. absurd (Memᴰ.not-nil u)
-  taken_came_or_went (taken.BadField x) = λ a u. absurd (Memᴰ.not-nil u)
-  taken_came_or_went (taken.Record p) =
+  taken_came_or_went (Err (Torn x)) = λ a u. absurd (Memᴰ.not-nil u)
+  taken_came_or_went (Err (BadKind x)) = λ a u. absurd (Memᴰ.not-nil u)
+  taken_came_or_went (Err (BadField x)) = λ a u. absurd (Memᴰ.not-nil u)
+  taken_came_or_went (Ok p) =
       let x = numbered p (body_in f p.frame) in
-      cond_both (StepCameOrWent (taken.Record p)) _ _ (eqb (distance x.number sp.expected) 0) (λ t. came_or_went sp.state q x.request x.list) (λ t.
-      cond_both (StepCameOrWent (taken.Record p)) _ _ (leb (distance x.number sp.expected) 2147483647) (λ u a v. absurd (Memᴰ.not-nil v)) (λ u a v. absurd (Memᴰ.not-nil v)))
+      cond_both (StepCameOrWent (Ok p)) _ _ (eqb (distance x.number sp.expected) 0) (λ t. came_or_went sp.state q x.request x.list) (λ t.
+      cond_both (StepCameOrWent (Ok p)) _ _ (leb (distance x.number sp.expected) 2147483647) (λ u a v. absurd (Memᴰ.not-nil v)) (λ u a v. absurd (Memᴰ.not-nil v)))
 
   pub step_came_or_went : (a : ActiveLock) → Mem a (step_moved f at (step_on sp f at)) → Turns (model_of sp.state).active (model_of (step_on sp f at).spare.state).active a
   step_came_or_went = subst (StepCameOrWent (taken_at f at)) (sym (step_sound sp f at q)) (taken_came_or_went (taken_at f at))
@@ -264,7 +265,7 @@ module _ (cs l l' : List ActiveLock) (turns : (a : ActiveLock) → Mem a cs → 
       go [] f = nothing_moved l' b h
       go (a ∷ rest) f = absurd (nobody z a (f a (Memᴰ.head refl)))
 
-module _ (s : LockState) (q : broken_rule s ≡ Sound) (r : Request) (ws : List ℕ) (b : List ℕ) (h : length b ≡ 4352) where
+module _ (s : LockState) (q : broken_rule s ≡ Ok tt) (r : Request) (ws : List ℕ) (b : List ℕ) (h : length b ≡ 4352) where
   pub written_covered : (e : ℕ) → e < 256
       → (entry_at (call_board r (perform_on s r ws) b) e ≡ entry_at b e) ⊎ Cause (model_of s).active (model_of (perform_on s r ws).state).active e
   written_covered = covered (call_moved r (perform_on s r ws)) (model_of s).active (model_of (perform_on s r ws).state).active (came_or_went s q r ws) b h
@@ -272,7 +273,7 @@ module _ (s : LockState) (q : broken_rule s ≡ Sound) (r : Request) (ws : List 
   pub none_written : (model_of (perform_on s r ws).state).active ≡ (model_of s).active → call_board r (perform_on s r ws) b ≡ b
   none_written = unwritten (call_moved r (perform_on s r ws)) (model_of s).active (model_of (perform_on s r ws).state).active (came_or_went s q r ws) b h
 
-module _ (sp : Spare) (q : broken_rule sp.state ≡ Sound) (f : List ℕ) (at : ℕ) (b : List ℕ) (h : length b ≡ 4352) where
+module _ (sp : Spare) (q : broken_rule sp.state ≡ Ok tt) (f : List ℕ) (at : ℕ) (b : List ℕ) (h : length b ≡ 4352) where
   pub step_written_covered : (e : ℕ) → e < 256
       → (entry_at (step_updated f at (step_on sp f at) b) e ≡ entry_at b e) ⊎ Cause (model_of sp.state).active (model_of (step_on sp f at).spare.state).active e
   step_written_covered = covered (step_moved f at (step_on sp f at)) (model_of sp.state).active (model_of (step_on sp f at).spare.state).active (step_came_or_went sp q f at) b h

@@ -5,20 +5,19 @@
 use Rattle.std.proofs.Common.{◌≡◌, ℕ, List, [], ◌∷◌, map, refl, ap, ◌∙◌, ap₂}
 use Rattle.state.specs.declared.LockState.{LockState}
 use Rattle.state.specs.Model.{empty_model, full}
-use Rattle.rules.specs.declared.Verdict.TheVariants.{Sound}
+use Rattle.std.specs.Prelude.{Ok}
 use Rattle.rules.specs.Rules.{broken_rule}
 use Rattle.rules.proofs.Sound.{sound_state}
 use Rattle.calls.specs.Calls.{perform_on}
 use Rattle.promises.specs.Steps.{Op, insert_active, insert_vehicle, renew, delete, begin_expiration, commit_replacement, acknowledge, expire_defunct, step_on as directOn}
 use Rattle.promises.proofs.Every.{empty_sound}
 use Rattle.image.specs.declared.Spare.{Spare}
-use Rattle.image.specs.declared.Reading.TheVariants as reading
 use Rattle.image.specs.Image.{no_spare, read_on}
 use Rattle.image.proofs.Trips.{accepted}
 use Rattle.takeover.specs.Deeds.{Deed, operation, delete_defunct, feeding, left, deed_on, met}
 use Rattle.takeover.proofs.Deeds.{deed_keeps}
-use Rattle.board.specs.declared.BoardPerformed.{BoardPerformed}
-use Rattle.board.specs.declared.BoardDropped.{BoardDropped}
+use Rattle.board.specs.Forms.{BoardPerformed}
+use Rattle.board.specs.Forms.{BoardDropped}
 use Rattle.board.specs.declared.BoardStep.{BoardStep}
 use Rattle.board.specs.Board.{board_of}
 use Rattle.board.specs.Forms.{Boarded, boarded}
@@ -38,7 +37,7 @@ asked_state s (acknowledge id) = refl
 asked_state s (expire_defunct now) = refl
 
 -- ---- one deed
-module _ (sp : Spare) (e : broken_rule sp.state ≡ Sound) where
+module _ (sp : Spare) (e : broken_rule sp.state ≡ Ok tt) where
   pub deed_board_lem : (d : Deed) → deed_board (watched sp) d ≡ watched (deed_on sp d)
   unfolding deed_board deed_on
   deed_board_lem (operation o) =
@@ -50,7 +49,7 @@ module _ (sp : Spare) (e : broken_rule sp.state ≡ Sound) where
   deed_board_lem (feeding f at) = ap (λ (r : Boarded BoardStep). boarded r.done.spare r.board) (step_keeps_board sp e f at)
 
 -- ---- and any number of them
-pub every_board : (sp : Spare) → broken_rule sp.state ≡ Sound → (ds : List Deed) → met_boards (watched sp) ds ≡ map watched (met sp ds)
+pub every_board : (sp : Spare) → broken_rule sp.state ≡ Ok tt → (ds : List Deed) → met_boards (watched sp) ds ≡ map watched (met sp ds)
 every_board sp e [] = refl
 every_board sp e (d ∷ ds) =
     ap (λ (l : List (Boarded Spare)). watched sp ∷ l) (ap (λ (w : Boarded Spare). met_boards w ds) (deed_board_lem sp e d) ∙ every_board (deed_on sp d) (deed_keeps sp e d) ds)
@@ -59,5 +58,5 @@ every_board sp e (d ∷ ds) =
 pub every_board_from_empty : (ds : List Deed) → met_boards (boarded no_spare (board_of [])) ds ≡ map watched (met no_spare ds)
 every_board_from_empty ds = every_board no_spare (sound_state empty_model (empty_sound full)) ds
 
-pub every_board_from_image : (b : List ℕ) (sp : Spare) → read_on b ≡ record { told = reading.Done; spare = sp } → (ds : List Deed) → met_boards (watched sp) ds ≡ map watched (met sp ds)
+pub every_board_from_image : (b : List ℕ) (sp : Spare) → read_on b ≡ record { told = Ok tt; spare = sp } → (ds : List Deed) → met_boards (watched sp) ds ≡ map watched (met sp ds)
 every_board_from_image b sp e ds = every_board sp (accepted b sp e).sound ds

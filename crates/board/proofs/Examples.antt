@@ -37,8 +37,9 @@ use Rattle.records.specs.Wire.{id_bytes}
 use Rattle.records.specs.declared.requests.Request.{Request}
 use Rattle.records.specs.declared.requests.Request.TheVariants.{Insert, Renew, Delete, Replace}
 use Rattle.calls.specs.Calls.{perform_on, outcome_paper}
-use Rattle.board.specs.declared.Checked.TheVariants.{UnsoundState}
-use Rattle.board.specs.declared.BoardOutcome.TheVariants as O
+use Rattle.std.specs.Prelude.{Err}
+use Rattle.board.specs.declared.BoardRefusal.TheVariants.{UnsoundState}
+use Rattle.board.specs.declared.Mismatch.TheVariants as M
 use Rattle.board.specs.Board.{on, count_on, lowest_on, entry_of, count_from, board_by, matches, check_on, moved}
 use Rattle.board.specs.Forms.{call_moved, perform_board}
 
@@ -81,9 +82,9 @@ record Computed : Type 0 where
   replaced : turned held_one (Replace (record { lock = lock_of 2 (Ecu 5) (set (5 ∷ [])); breaker = 0; broken = 0 })) (0 ∷ 1 ∷ []) ≡ 2 ∷ 1 ∷ []
   renewed : turned held_one (Renew (record { id = id_of 1; expires = 200; now = 0; given = false; metadata = 0 })) [] ≡ []
   refused : turned held_one (Insert one) [] ≡ []
-  told : (perform_board held_one (Delete (id_of 1)) [] (7 ∷ [])).done.told.outcome ≡ O.BoardMismatch
+  told : (perform_board held_one (Delete (id_of 1)) [] (7 ∷ [])).done.told.outcome ≡ Err M.BoardMismatch
   left : (perform_board held_one (Delete (id_of 1)) [] (7 ∷ [])).board ≡ 7 ∷ []
-  first : check_on unsound (7 ∷ []) ≡ UnsoundState 0
+  first : check_on unsound (7 ∷ []) ≡ Err (UnsoundState 0)
 
 computed : Computed
 unfolding sound broken_rule rule0 rule1 rule2 rule3 rule4 rule5 rule6 rule7 rule8 rule9 clash meets_none fits in_order neat neat_l neat_a neat_d zero_lock zero_set zero_id blanks is_blank_a is_blank_d key same_id before_id odd_words listed_in covers in_set word_of overlap within all_below any_below ◌and◌ ◌or◌ ◌imp◌ non is_vehicle is_group ecu_in scope_code same_scope has_id has_id_d blank_active blank_defunct normal on_sound on_scope narrow covers_defunct is_done refuse_if and_then paper_of renewal_paper deletion_paper redirect other remove_d superseded supersede to_defunct child_of in_tree tree_parts root_parts roots_parts check_list check_id check_scope check_parent_active check_parent_vehicle check_parent_owner check_parent_cover conflicts check_clear at_last_lem check_revision check_room check_root missing check_active settled_lock check_free check_listed check_owner check_cover check_child check_holder inserted_in judge_insert closed_insert settled_insert insert_active_with insert_active_on nest adopt vehicle_in judge_vehicle insert_vehicle_with insert_vehicle_on extended extend_at renewed_in judge_renew renew_on without_tree delete_found delete_on expire_found begin_expiration_on orphan entered_of replaced_in judge_replace closed_replace settled_replace commit_replacement_with commit_replacement_on perform_on outcome_paper on count_on lowest_on entry_of moved bytes_of_all digits bytes_of same_bytes count_from board_by matches check_on perform_board

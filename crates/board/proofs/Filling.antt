@@ -1,14 +1,13 @@
 -- What the loops over a board keep: an entry turned, those of a coverage turned one after the other, the locks put in from the last
 -- to the first. Assumes nothing.
-use Rattle.std.proofs.Common.{◌≡◌, ℕ, suc, ◌+◌, ◌*◌, ◌%◌, ◌<◌, ◌≤◌, Bool, true, false, cond, ◌&&◌, eqb, ltb, List, [], ◌∷◌, ◌++◌, length, get_or, take, drop, set, sym, refl, ap, ◌∙◌, subst, ap₂, mod-eq_of_lt, add-one, arith, length-drop, length-set, drop_of_length-le, length-take-le, get_or-drop, take_all, drop-cons, get_or-take, ltb-false, ltb-true, le-ltb, lt-ltb, le-leb}
+use Rattle.std.proofs.Common.{◌≡◌, ℕ, suc, ◌+◌, ◌*◌, ◌<◌, ◌≤◌, Bool, cond, ltb, List, [], ◌∷◌, ◌++◌, length, get_or, take, drop, set, sym, refl, ap, ◌∙◌, subst, ap₂, mod-eq_of_lt, add-one, arith, length-drop, length-set, drop_of_length-le, get_or-drop, drop-cons, get_or-take, ltb-false, ltb-true, le-ltb, lt-ltb, le-leb}
 use native.Mathlib.Decide.{ℕ_discrete}
+use Rattle.std.specs.Prelude.{Option, None, Some, unwrap_or}
 use lib.Seq.{set_split, append_snoc}
 use Rattle.lists.specs.Tests.{◌and◌, Yes, No}
 use Rattle.lists.specs.Lists.{filter}
-use Rattle.lists.proofs.Tests.{by, cond_true, cond_false, cond_both, and_t, and_f, and_i, and_comm, and_code}
-use Rattle.lists.proofs.Loops.{more}
+use Rattle.lists.proofs.Tests.{by, cond_true, cond_false, cond_both, and_t, and_f, and_i, and_comm}
 use Rattle.lists.proofs.Lists.{filter_le}
-use Rattle.names.specs.Bytes.{same_bytes}
 use Rattle.ids.specs.declared.LockId.{LockId}
 use Rattle.ids.specs.Order.{no_id}
 use Rattle.coverage.specs.declared.LockCoverage.{LockCoverage}
@@ -19,7 +18,7 @@ use Rattle.records.specs.Wire.{id_bytes}
 use Rattle.records.proofs.Numbers.{splice_splice, length_splice}
 use Rattle.records.proofs.Runs.{length_id}
 use Rattle.board.specs.Board.{on, count_on, lowest_on, entry_of, entry_at, refreshed}
-use Rattle.board.specs.Code.{Covers, EmptyIn, Next, turned, touched}
+use Rattle.board.specs.Code.{Covers, EmptyIn, Next, count_after, turned, touched}
 use Rattle.board.proofs.Rows.{made_by, by_same, size_by, entry_by, size_at, stored_here, stored_off}
 
 -- ---- one entry: its count, then its id
@@ -37,24 +36,24 @@ entry_put b at v id h =
 pub count_at : (b : List ℕ) (e : ℕ) → get_or b (e * 17) 0 ≡ get_or (entry_at b e) 0 0
 count_at b e = sym (get_or-take 17 (drop (e * 17) b) 0 0 (omega arith) ∙ get_or-drop (e * 17) b 0 0 ∙ ap (λ (k : ℕ). get_or b k 0) (let q : e * 17 + 0 ≡ e * 17 = omega arith in q))
 
-pub turn_put : (b : List ℕ) (e v : ℕ) (adding : Bool) (id : LockId) → length b ≡ 4352 → e < 256 → v ≡ cond adding ((get_or b (e * 17) 0 + 1) % 256) 0
-    → stored (set b (e * 17) v) (e * 17 + 1) (id_bytes id) ≡ splice b (e * 17) (turned adding id (entry_at b e))
+pub turn_put : (b : List ℕ) (e v : ℕ) (o : Option LockId) → length b ≡ 4352 → e < 256 → v ≡ count_after o (get_or b (e * 17) 0)
+    → stored (set b (e * 17) v) (e * 17 + 1) (id_bytes (unwrap_or o no_id)) ≡ splice b (e * 17) (turned o (entry_at b e))
 unfolding turned
-turn_put b e v adding id l h q =
-    entry_put b (e * 17) v id (omega arith)
-    ∙ ap (λ (n : ℕ). splice b (e * 17) (n ∷ id_bytes id)) (q ∙ ap (λ (n : ℕ). cond adding ((n + 1) % 256) 0) (count_at b e))
+turn_put b e v o l h q =
+    entry_put b (e * 17) v (unwrap_or o no_id) (omega arith)
+    ∙ ap (λ (n : ℕ). splice b (e * 17) (n ∷ id_bytes (unwrap_or o no_id))) (q ∙ ap (count_after o) (count_at b e))
 
-pub size_turned : (adding : Bool) (id : LockId) (old : List ℕ) → length (turned adding id old) ≡ 17
+pub size_turned : (o : Option LockId) (old : List ℕ) → length (turned o old) ≡ 17
 unfolding turned
-size_turned adding id old = ap suc (length_id id)
+size_turned o old = ap suc (length_id (unwrap_or o no_id))
 
-pub size_put : (b : List ℕ) (e : ℕ) (adding : Bool) (id : LockId) → length b ≡ 4352 → e < 256 → length (splice b (e * 17) (turned adding id (entry_at b e))) ≡ length b
-size_put b e adding id l h = length_splice b (e * 17) (turned adding id (entry_at b e)) (omega (arith, size_turned adding id (entry_at b e)))
+pub size_put : (b : List ℕ) (e : ℕ) (o : Option LockId) → length b ≡ 4352 → e < 256 → length (splice b (e * 17) (turned o (entry_at b e))) ≡ length b
+size_put b e o l h = length_splice b (e * 17) (turned o (entry_at b e)) (omega (arith, size_turned o (entry_at b e)))
 
 -- ---- the entries of a coverage, up to the ECU e
-module _ (p : ℕ → Bool) (adding : Bool) (id : LockId) (b : List ℕ) where
+module _ (p : ℕ → Bool) (o : Option LockId) (b : List ℕ) where
   abbrev turn : ℕ → List ℕ
-  turn k = turned adding id (entry_at b k)
+  turn k = turned o (entry_at b k)
 
   pub record Turning (board : List ℕ) (e : ℕ) : Type 0 where
     pub size : length board ≡ 4352
@@ -77,26 +76,26 @@ module _ (p : ℕ → Bool) (adding : Bool) (id : LockId) (b : List ℕ) where
             (λ t. off e k (and_f (ltb k e) (p k) t)));
       }
 
-  pub turning_turns : (board board' : List ℕ) (e e' : ℕ) → Turning board e → e < 256 → board' ≡ splice board (e * 17) (turned adding id (entry_at board e)) → Next p (e + 1) e' → Turning board' e'
+  pub turning_turns : (board board' : List ℕ) (e e' : ℕ) → Turning board e → e < 256 → board' ≡ splice board (e * 17) (turned o (entry_at board e)) → Next p (e + 1) e' → Turning board' e'
   turning_turns board board' e e' g h q n =
       record {
-        size = ap length q ∙ size_put board e adding id g.size h ∙ g.size;
+        size = ap length q ∙ size_put board e o g.size h ∙ g.size;
         most = n.most;
         here = n.here;
         entries = λ k l. ap (λ (s : List ℕ). entry_at s k) q ∙ elim (ℕ_discrete k e) [ yes z ↦ here k z | no z ↦ stored_off board x e g.size h w k z ∙ g.entries k l ∙ same k z ];
       }
     where
       x : List ℕ
-      x = turned adding id (entry_at board e)
+      x = turned o (entry_at board e)
 
       w : length x ≡ 17
-      w = size_turned adding id (entry_at board e)
+      w = size_turned o (entry_at board e)
 
       was : entry_at board e ≡ entry_at b e
       was = g.entries e h ∙ off e e (and_f (ltb e e) (p e) (le-ltb e e (omega arith)))
 
       now_turned : entry_at (splice board (e * 17) x) e ≡ cond (ltb e e' and p e) (turn e) (entry_at b e)
-      now_turned = stored_here board x e g.size h w ∙ ap (turned adding id) was ∙ sym (cond_true _ _ _ (and_i (ltb e e') (p e) (lt-ltb e e' (omega (arith, n.after))) (g.here h)))
+      now_turned = stored_here board x e g.size h w ∙ ap (turned o) was ∙ sym (cond_true _ _ _ (and_i (ltb e e') (p e) (lt-ltb e e' (omega (arith, n.after))) (g.here h)))
 
       here : (k : ℕ) → k ≡ e → entry_at (splice board (e * 17) x) k ≡ cond (ltb k e' and p k) (turn k) (entry_at b k)
       here k z = subst (λ (j : ℕ). entry_at (splice board (e * 17) x) j ≡ cond (ltb j e' and p j) (turn j) (entry_at b j)) (sym z) now_turned
@@ -110,60 +109,37 @@ module _ (p : ℕ → Bool) (adding : Bool) (id : LockId) (b : List ℕ) where
           (λ t. ap (λ (y : Bool). cond (y and p k) (turn k) (entry_at b k)) (t ∙ sym (lt-ltb k e' (let q = ltb-true k e t in omega (arith, n.after)))))
           (λ t. off e k (and_f (ltb k e) (p k) t) ∙ sym (off e' k (beyond k (let q = ltb-false k e t in omega arith))))
 
-  pub turning_ends : (board : List ℕ) (e : ℕ) → Turning board e → 256 ≤ e → board ≡ touched p adding id b
+  pub turning_ends : (board : List ℕ) (e : ℕ) → Turning board e → 256 ≤ e → board ≡ touched p o b
   unfolding touched
   turning_ends board e g h = made_by board _ g.size (λ k l. g.entries k l ∙ ap (λ (t : Bool). cond t (turn k) (entry_at b k)) (and_t (ltb k e) (p k) (lt-ltb k e (omega arith))))
 
   -- the entries afterwards
   module _ (l : length b ≡ 4352) where
     row_size : (k : ℕ) → k < 256 → length (cond (p k) (turn k) (entry_at b k)) ≡ 17
-    row_size k h = cond_both (λ (s : List ℕ). length s ≡ 17) (turn k) (entry_at b k) (p k) (λ t. size_turned adding id (entry_at b k)) (λ t. size_at b k l h)
+    row_size k h = cond_both (λ (s : List ℕ). length s ≡ 17) (turn k) (entry_at b k) (p k) (λ t. size_turned o (entry_at b k)) (λ t. size_at b k l h)
 
-    pub size_touched : length (touched p adding id b) ≡ 4352
+    pub size_touched : length (touched p o b) ≡ 4352
     unfolding touched
     size_touched = size_by (λ k. cond (p k) (turn k) (entry_at b k)) row_size
 
-    pub touched_at : (k : ℕ) → k < 256 → entry_at (touched p adding id b) k ≡ cond (p k) (turn k) (entry_at b k)
+    pub touched_at : (k : ℕ) → k < 256 → entry_at (touched p o b) k ≡ cond (p k) (turn k) (entry_at b k)
     unfolding touched
     touched_at k h = entry_by (λ k. cond (p k) (turn k) (entry_at b k)) row_size k h
 
 -- emptied, and then worked out: what was there is gone, and the others stay
-pub emptied : (c : LockCoverage) (b : List ℕ) → length b ≡ 4352 → EmptyIn c (touched (covers c) false no_id b)
+pub emptied : (c : LockCoverage) (b : List ℕ) → length b ≡ 4352 → EmptyIn c (touched (covers c) None b)
 unfolding turned entry_of count_on lowest_on
-emptied c b l e h t = touched_at (covers c) false no_id b l e h ∙ cond_true _ _ _ t
+emptied c b l e h t = touched_at (covers c) None b l e h ∙ cond_true _ _ _ t
 
-pub refreshed_again : (p : ℕ → Bool) (adding : Bool) (id : LockId) (l : List ActiveLock) (b : List ℕ) → length b ≡ 4352 → refreshed p l (touched p adding id b) ≡ refreshed p l b
+pub refreshed_again : (p : ℕ → Bool) (o : Option LockId) (l : List ActiveLock) (b : List ℕ) → length b ≡ 4352 → refreshed p l (touched p o b) ≡ refreshed p l b
 unfolding refreshed
-refreshed_again p adding id l b s =
-    by_same _ _ (λ e h. by (p e) (cond (p e) (entry_of l e) (entry_at (touched p adding id b) e) ≡ cond (p e) (entry_of l e) (entry_at b e))
+refreshed_again p o l b s =
+    by_same _ _ (λ e h. by (p e) (cond (p e) (entry_of l e) (entry_at (touched p o b) e) ≡ cond (p e) (entry_of l e) (entry_at b e))
     (λ t. cond_true _ _ _ t ∙ sym (cond_true _ _ _ t))
-    (λ t. ap (λ (r : List ℕ). cond (p e) (entry_of l e) r) (touched_at p adding id b s e h ∙ cond_false _ _ _ t)))
-
--- ---- two buffers byte by byte
-and_assoc : (a b c : Bool) → ((a and b) and c) ≡ (a and (b and c))
-unfolding ◌and◌
-and_assoc true b c = refl
-and_assoc false b c = refl
-
-same_more : (xs ys : List ℕ) (x y : ℕ) → length xs ≡ length ys → same_bytes (xs ++ (x ∷ [])) (ys ++ (y ∷ [])) ≡ (same_bytes xs ys and eqb x y)
-unfolding same_bytes
-same_more [] [] x y h = and_comm (eqb x y) true
-same_more [] (b ∷ ys) x y h = absurd (omega arith)
-same_more (a ∷ xs) [] x y h = absurd (omega arith)
-same_more (a ∷ xs) (b ∷ ys) x y h = ap (λ (t : Bool). eqb a b and t) (same_more xs ys x y (omega arith)) ∙ sym (and_assoc (eqb a b) (same_bytes xs ys) (eqb x y))
-
-pub same_turns : (a b : List ℕ) (i : ℕ) (same : Bool) → length a ≡ length b → i < length a → same ≡ same_bytes (take i a) (take i b)
-    → (same && eqb (get_or a i 0) (get_or b i 0)) ≡ same_bytes (take (i + 1) a) (take (i + 1) b)
-same_turns a b i same l h q =
-    and_code same (eqb (get_or a i 0) (get_or b i 0))
-    ∙ ap (λ (t : Bool). t and eqb (get_or a i 0) (get_or b i 0)) q
-    ∙ sym (ap₂ same_bytes (more a i 0 h) (more b i 0 (omega arith)) ∙ same_more (take i a) (take i b) (get_or a i 0) (get_or b i 0) (length-take-le i a (omega arith) ∙ sym (length-take-le i b (omega arith))))
-
-pub same_ends : (a b : List ℕ) (i : ℕ) (same : Bool) → length a ≤ i → length b ≤ i → same ≡ same_bytes (take i a) (take i b) → same ≡ same_bytes a b
-same_ends a b i same l m q = q ∙ ap₂ same_bytes (take_all i a l) (take_all i b m)
+    (λ t. ap (λ (r : List ℕ). cond (p e) (entry_of l e) r) (touched_at p o b s e h ∙ cond_false _ _ _ t)))
 
 -- ---- a lock put in before the others
-entry_yes : (x : ActiveLock) (l : List ActiveLock) (e : ℕ) → length l < 255 → Yes (on e x) → entry_of (x ∷ l) e ≡ turned true x.lock.id (entry_of l e)
+entry_yes : (x : ActiveLock) (l : List ActiveLock) (e : ℕ) → length l < 255 → Yes (on e x) → entry_of (x ∷ l) e ≡ turned (Some x.lock.id) (entry_of l e)
 unfolding entry_of count_on lowest_on turned
 entry_yes x l e h t = rw t (ap (λ (n : ℕ). n ∷ id_bytes x.lock.id) (let q : suc (length (filter (on e) l)) ≡ length (filter (on e) l) + 1 = omega arith in q ∙ sym (mod-eq_of_lt (omega (arith, filter_le (on e) l)))))
 
@@ -190,16 +166,16 @@ module _ (c : LockCoverage) (b : List ℕ) (l : List ActiveLock) where
       none_left = drop_of_length-le l {i = i} (omega arith)
 
   pub filling_turns : (d x : ActiveLock) (board board' : List ℕ) (i j : ℕ) (r : LockCoverage) → get_or l j d ≡ x → Filling board i → length l < 255 → j + 1 ≡ i → Covers r (λ e. covers c e and covers x.lock.coverage e)
-      → board' ≡ touched (covers r) true x.lock.id board → Filling board' j
+      → board' ≡ touched (covers r) (Some x.lock.id) board → Filling board' j
   unfolding on
   filling_turns d x board board' i j r z g m q v u =
-      record { most = omega (arith, g.most); size = ap length u ∙ size_touched (covers r) true x.lock.id board g.size; entries = λ k h. ap (λ (s : List ℕ). entry_at s k) u ∙ touched_at (covers r) true x.lock.id board g.size k h ∙ entry k h }
+      record { most = omega (arith, g.most); size = ap length u ∙ size_touched (covers r) (Some x.lock.id) board g.size; entries = λ k h. ap (λ (s : List ℕ). entry_at s k) u ∙ touched_at (covers r) (Some x.lock.id) board g.size k h ∙ entry k h }
     where
       next : drop j l ≡ x ∷ drop i l
       next = drop-cons l j d (omega (arith, g.most)) ∙ ap₂ (λ (y : ActiveLock) (n : ℕ). y ∷ drop n l) z (let e : suc j ≡ i = omega arith in e)
 
       put : ℕ → List ℕ
-      put k = turned true x.lock.id (entry_at board k)
+      put k = turned (Some x.lock.id) (entry_at board k)
 
       short : length (drop i l) < 255
       short = omega (arith, length-drop i l)
@@ -210,7 +186,7 @@ module _ (c : LockCoverage) (b : List ℕ) (l : List ActiveLock) where
           let hits : covers r k ≡ on k x = v k ∙ and_t (covers c k) (on k x) t in
           ap (λ (y : Bool). cond y (put k) (entry_at board k)) hits
           ∙ cond_both (λ (s : List ℕ). s ≡ entry_of (x ∷ drop i l) k) (put k) (entry_at board k) (on k x)
-          (λ y. ap (turned true x.lock.id) was ∙ sym (entry_yes x (drop i l) k short y)) (λ y. was ∙ sym (entry_no x (drop i l) k y))
+          (λ y. ap (turned (Some x.lock.id)) was ∙ sym (entry_yes x (drop i l) k short y)) (λ y. was ∙ sym (entry_no x (drop i l) k y))
           ∙ ap (λ (m : List ActiveLock). entry_of m k) (sym next)
 
       outside : (k : ℕ) → k < 256 → No (covers c k) → cond (covers r k) (put k) (entry_at board k) ≡ entry_at b k
@@ -221,6 +197,6 @@ module _ (c : LockCoverage) (b : List ℕ) (l : List ActiveLock) where
           by (covers c k) (cond (covers r k) (put k) (entry_at board k) ≡ cond (covers c k) (entry_of (drop j l) k) (entry_at b k))
           (λ t. inside k h t ∙ sym (cond_true _ _ _ t)) (λ t. outside k h t ∙ sym (cond_false _ _ _ t))
 
-  pub filling_ends : (board : List ℕ) → Filling board 0 → board ≡ refreshed (covers c) l b
+  pub filling_ends : (board : List ℕ) (i : ℕ) → Filling board i → i ≡ 0 → board ≡ refreshed (covers c) l b
   unfolding refreshed
-  filling_ends board g = made_by board _ g.size g.entries
+  filling_ends board i g z = let f = subst (Filling board) z g in made_by board _ f.size f.entries

@@ -1,10 +1,17 @@
 -- What the code's calls come to: the ECUs of the locks that came or went as one coverage, and the board worked out over it.
 -- Assumes nothing.
-use Rattle.std.proofs.Common.{◌≡◌, ℕ, zero, suc, ◌+◌, ◌-◌, ◌*◌, ◌/◌, ◌%◌, ◌<◌, ◌≤◌, Bool, false, cond, ltb, List, [], ◌∷◌, ◌++◌, length, get_or, take, replicate, sym, refl, ap, ◌∙◌, subst, ap₂, arith, take_all, take_at, drop_at, ltb-false, ltb-true, eq-eqb, ne_eqb}
+use Rattle.std.proofs.Common.{◌≡◌, ℕ, zero, suc, ◌+◌, ◌-◌, ◌*◌, ◌/◌, ◌%◌, ◌<◌, ◌≤◌, Bool, false, cond, ltb, List, [], ◌∷◌, ◌++◌, length, get_or, take, replicate, sym, refl, ap, ◌∙◌, ap₂, arith, take_all, take_at, drop_at, ltb-false, ltb-true, eq-eqb, ne_eqb}
+use lib.Pointwise.{pointwise}
+use lib.Dec.{eqb}
+use Prim.Native.Nat.{min}
+use Rattle.std.proofs.lemmas.List.{length-take}
+use Rattle.lists.specs.Tests.{◌and◌}
+use Rattle.lists.proofs.Tests.{by, and_code}
+use Rattle.names.specs.Bytes.{same_bytes}
 use lib.ListN.{length-replicate, replicate-append-replicate}
 use Rattle.lists.specs.Tests.{◌or◌, Yes}
 use Rattle.lists.specs.Lists.{any}
-use Rattle.lists.proofs.Tests.{cond_true, cond_false, cond_both, or_f, or_comm, or_assoc}
+use Rattle.lists.proofs.Tests.{cond_true, cond_false, or_f, or_comm, or_assoc}
 use Rattle.lists.proofs.Loops.{more}
 use Rattle.bits.specs.Bits.{bit_at}
 use Rattle.bits.proofs.Bits.{bit_of_zero}
@@ -59,18 +66,10 @@ module _ (c : LockCoverage) (removed : List ActiveLock) where
       ∙ or_assoc (covers c e) (any (on e) (take i removed)) (any (on e) (get_or removed i d ∷ []))
       ∙ ap (λ (t : Bool). covers c e or t) (sym (ap (any (on e)) (more removed i d h) ∙ any_append (on e) (take i removed) (get_or removed i d ∷ [])))
 
--- a count past the array's end counts as its end
-pub at_most_fits : (k n : ℕ) → k ≡ cond (ltb 64 n) 64 n → k ≤ 64
-at_most_fits k n q = subst (λ (j : ℕ). j ≤ 64) (sym q) (cond_both (λ (j : ℕ). j ≤ 64) 64 n (ltb 64 n) (λ t. omega arith) (λ t. ltb-false 64 n t))
-
-pub take_at_most : {A : Type 0} (l : List A) (n : ℕ) → length l ≡ 64 → take (cond (ltb 64 n) 64 n) l ≡ take n l
-take_at_most l n h =
-    cond_both (λ (k : ℕ). take k l ≡ take n l) 64 n (ltb 64 n) (λ t. take_all 64 l (omega arith) ∙ sym (take_all n l (let q = ltb-true 64 n t in omega arith))) (λ t. refl)
-
 -- ---- the board over a coverage, over the locks
-pub followed : (c : LockCoverage) (r : Request) (n gone : ℕ) (removed l : List ActiveLock) (b : List ℕ) → Covers c (λ e. any (on e) (arrived r n) or any (on e) (take gone removed)) → refreshed (covers c) l b ≡ updated (moved r n gone removed) l b
-unfolding updated refreshed moved
-followed c r n gone removed l b h = by_same _ _ (λ e k. ap (λ (t : Bool). cond t (entry_of l e) (entry_at b e)) (h e ∙ sym (any_append (on e) (arrived r n) (take gone removed))))
+pub followed : (c : LockCoverage) (r : Request) (n : ℕ) (went l : List ActiveLock) (b : List ℕ) → Covers c (λ e. any (on e) (arrived r n) or any (on e) went) → refreshed (covers c) l b ≡ updated (arrived r n ++ went) l b
+unfolding updated refreshed
+followed c r n went l b h = by_same _ _ (λ e k. ap (λ (t : Bool). cond t (entry_of l e) (entry_at b e)) (h e ∙ sym (any_append (on e) (arrived r n) went)))
 
 -- ---- a whole board
 all_on : (e : ℕ) → Yes (covers whole_vehicle e)
@@ -97,10 +96,27 @@ zeros_empty c n q e h t =
     let k : n ≡ e * 17 + (17 + (4352 - (e * 17 + 17))) = omega arith in
     ap (λ (j : ℕ). entry_at (replicate j 0) e) k ∙ part_of_one (e * 17) 17 (4352 - (e * 17 + 17)) 0 ∙ no_locks e
 
--- ---- what the code's parts come to
-module _ (r : Request) (n gone : ℕ) (removed : List ActiveLock) (s : LockState) (b : List ℕ) where
-  pub follow_all : (c all : LockCoverage) (k : ℕ) → Covers c (λ e. any (on e) (arrived r n)) → Covers all (λ e. covers c e or any (on e) (take gone removed)) → k ≡ cond (ltb 64 s.actives) 64 s.actives → length s.active ≡ 64
-      → refreshed (covers all) (take k s.active) b ≡ updated (moved r n gone removed) (model_of s).active b
-  follow_all c all k g h q l =
-      ap (λ (m : List ActiveLock). refreshed (covers all) m b) (ap (λ (j : ℕ). take j s.active) q ∙ take_at_most s.active s.actives l)
-      ∙ followed all r n gone removed (model_of s).active b (λ e. h e ∙ ap (λ (t : Bool). t or any (on e) (take gone removed)) (g e))
+-- ---- slices of the same bytes, as the library compares them
+pub same_listed : (a b : List ℕ) → pointwise eqb a b ≡ same_bytes a b
+unfolding same_bytes
+same_listed [] [] = refl
+same_listed [] (y ∷ b) = refl
+same_listed (x ∷ a) [] = refl
+same_listed (x ∷ a) (y ∷ b) = and_code (eqb x y) (pointwise eqb a b) ∙ ap (λ (t : Bool). eqb x y and t) (same_listed a b)
+
+-- no more active locks than there are places
+pub actives_most : (s : LockState) (l : List ActiveLock) → length s.active ≡ 64 → l ≡ (model_of s).active → length l ≤ 64
+actives_most s l h e = omega (arith, ap length e, length-take s.actives s.active)
+
+-- the locks that came or went: a count past the array's end counts as its end
+pub all_moved : (r : Request) (n gone : ℕ) (removed : List ActiveLock) → length removed ≡ 64 → arrived r n ++ take (min gone 64) removed ≡ moved r n gone removed
+unfolding moved
+all_moved r n gone removed h = ap (λ (l : List ActiveLock). arrived r n ++ l) (by (ltb 64 gone) (take (min gone 64) removed ≡ take gone removed)
+    (λ t. let g = ltb-true 64 gone t in take_all (min gone 64) removed (omega arith) ∙ sym (take_all gone removed (omega arith)))
+    (λ f. let g = ltb-false 64 gone f in let z : min gone 64 ≡ gone = omega arith in ap (λ (k : ℕ). take k removed) z))
+
+-- .. in a board that follows them: n and m are the answer's number, k how many went
+pub follow_moved : (r : Request) (n m gone k : ℕ) (removed l active : List ActiveLock) (b b' : List ℕ) → length removed ≡ 64 → k ≡ min gone 64 → m ≡ n → l ≡ active
+    → b' ≡ updated (arrived r m ++ take k removed) l b → b' ≡ updated (moved r n gone removed) active b
+follow_moved r n m gone k removed l active b b' h p q u e =
+    e ∙ ap₂ (λ (cs ls : List ActiveLock). updated cs ls b) (ap₂ (λ (j i : ℕ). arrived r j ++ take i removed) q p ∙ all_moved r n gone removed h) u

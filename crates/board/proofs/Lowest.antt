@@ -20,7 +20,7 @@ use Rattle.state.specs.declared.ActiveLock.{ActiveLock}
 use Rattle.state.specs.declared.LockState.{LockState}
 use Rattle.state.specs.Locks.{akey, is_vehicle}
 use Rattle.state.specs.Model.{model_of, full}
-use Rattle.rules.specs.declared.Verdict.TheVariants.{Sound}
+use Rattle.std.specs.Prelude.{Ok}
 use Rattle.rules.specs.Rules.{broken_rule, clash}
 use Rattle.rules.proofs.Sound.{sound_of}
 use Rattle.lookups.proofs.Verdicts.{actives_fit, actives_ascend}
@@ -34,7 +34,7 @@ unfolding count_on
 at_most l e = filter_le (on e) l
 
 -- in one byte
-pub count_fits : (s : LockState) → broken_rule s ≡ Sound → (e : ℕ) → count_on (model_of s).active e ≤ 64
+pub count_fits : (s : LockState) → broken_rule s ≡ Ok tt → (e : ℕ) → count_on (model_of s).active e ≤ 64
 count_fits s q e = omega (arith, at_most (model_of s).active e, length-take s.actives s.active, actives_fit s q)
 
 pub count_none : (l : List ActiveLock) (e : ℕ) → (count_on l e ≡ 0) ↔ ((a : ActiveLock) → Mem a l → No (on e a))
@@ -75,7 +75,7 @@ both_overlap a b e h x y = go (or_e _ _ x) (or_e _ _ y)
     go (inr x) (inl y) = or_l _ _ (or_r _ _ y)
     go (inr x) (inr y) = or_r _ _ (any_of 256 _ e h (and_i _ _ x y))
 
-module _ (s : LockState) (q : broken_rule s ≡ Sound) where
+module _ (s : LockState) (q : broken_rule s ≡ Ok tt) where
   -- of a state's own list
   pub lowest_in_lem : (e : ℕ) → (count_on (model_of s).active e ≡ 0 → ⊥) → IsLowest (model_of s).active e (lowest_on (model_of s).active e)
   lowest_in_lem e h = lowest_is (model_of s).active (actives_ascend s q) e h

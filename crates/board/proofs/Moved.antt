@@ -17,13 +17,13 @@ use Rattle.state.specs.declared.LockState.{LockState}
 use Rattle.state.specs.Locks.{akey, blank_active, normal}
 use Rattle.state.specs.Model.{Model, model_of, state_of}
 use Rattle.state.proofs.Laws.{back}
-use Rattle.operations.specs.declared.answers.Inserted.{Inserted}
-use Rattle.operations.specs.declared.answers.Renewed.{Renewed}
-use Rattle.operations.specs.declared.answers.Deleted.{Deleted}
-use Rattle.operations.specs.declared.answers.Expired.{Expired}
-use Rattle.operations.specs.declared.answers.Replaced.{Replaced}
-use Rattle.operations.specs.declared.answers.Acknowledged.{Acknowledged}
-use Rattle.operations.specs.declared.answers.DefunctsExpired.{DefunctsExpired}
+use Rattle.operations.specs.Answers.{Inserted}
+use Rattle.operations.specs.Answers.{Renewed}
+use Rattle.operations.specs.Answers.{Deleted}
+use Rattle.operations.specs.Answers.{Expired}
+use Rattle.operations.specs.Answers.{Replaced}
+use Rattle.operations.specs.Answers.{Acknowledged}
+use Rattle.operations.specs.Answers.{DefunctsExpired}
 use Rattle.operations.specs.Answers.{paper_of, deletion_paper, expiration_paper}
 use Rattle.operations.specs.Trees.{is_listed}
 use Rattle.operations.specs.Insert.{inserted_in}
@@ -32,7 +32,7 @@ use Rattle.operations.specs.Renew.{extend_at, renewed_in}
 use Rattle.operations.specs.Delete.{tree_out, without_tree}
 use Rattle.operations.specs.Replace.{orphan, cut_of, replaced_in}
 use Rattle.operations.specs.Acknowledge.{acknowledge_on, shed_in}
-use Rattle.locks.specs.declared.Dropped.{Dropped}
+use Rattle.locks.specs.Locks.{Dropped}
 use Rattle.locks.specs.Locks.{delete_defunct_on}
 use Rattle.records.specs.declared.requests.Request.{Request}
 use Rattle.records.specs.declared.requests.Request.TheVariants.{Insert, InsertVehicle, Renew, Delete, BeginExpiration, Replace, Acknowledge, ExpireDefunct}
@@ -43,8 +43,10 @@ use Rattle.promises.proofs.Closing.{insert_active_comes, insert_vehicle_comes, r
 use Rattle.promises.proofs.Dropping.{drop_comes}
 use Rattle.image.specs.declared.Spare.{Spare}
 use Rattle.feed.specs.declared.events.Step.{Step}
-use Rattle.feed.specs.declared.taking.Taken.{Taken}
-use Rattle.feed.specs.declared.taking.Taken.TheVariants as taken
+use Rattle.std.specs.Prelude.{Result, Ok, Err}
+use Rattle.records.specs.declared.frame.Unread.{Unread}
+use Rattle.records.specs.declared.frame.Unread.TheVariants.{Torn, BadKind, BadField}
+use Rattle.feed.specs.declared.taking.Placed.{Placed}
 use Rattle.feed.specs.Feed.{numbered, body_in, taken_at, act_on, taken_on, step_on, event_paper}
 use Rattle.feed.proofs.Turning.{turn_comes, step_comes}
 use Rattle.board.specs.Board.{on, entry_of, moved}
@@ -130,17 +132,17 @@ delete_defunct_moves s i k subject e =
 
 -- ---- a step over the feed
 module _ (sp : Spare) (f : List ℕ) (at : ℕ) (e : ℕ) where
-  abbrev StepAgrees : Taken → Step → Type 0
+  abbrev StepAgrees : Result Placed Unread → Step → Type 0
   StepAgrees t st = No (any (on e) (taken_moved t st)) → entry_of (model_of sp.state).active e ≡ entry_of (model_of st.spare.state).active e
 
-  taken_moves : (t : Taken) → StepAgrees t (taken_on sp f at t)
+  taken_moves : (t : Result Placed Unread) → StepAgrees t (taken_on sp f at t)
   unfolding act_on event_paper
-  taken_moves (taken.Torn x) = λ n. refl
-  taken_moves (taken.BadKind x) = λ n. refl
-  taken_moves (taken.BadField x) = λ n. refl
-  taken_moves (taken.Record p) =
+  taken_moves (Err (Torn x)) = λ n. refl
+  taken_moves (Err (BadKind x)) = λ n. refl
+  taken_moves (Err (BadField x)) = λ n. refl
+  taken_moves (Ok p) =
       let x = numbered p (body_in f p.frame) in
-      turn_comes sp p.frame.next x (StepAgrees (taken.Record p)) (λ d. call_moves sp.state x.request x.list e) (λ v g n. refl)
+      turn_comes sp p.frame.next x (StepAgrees (Ok p)) (λ d. call_moves sp.state x.request x.list e) (λ v g n. refl)
 
   pub step_moves : No (any (on e) (step_moved f at (step_on sp f at))) → entry_of (model_of sp.state).active e ≡ entry_of (model_of (step_on sp f at).spare.state).active e
   step_moves = step_comes sp f at (StepAgrees (taken_at f at)) (λ n u. refl) (λ q. taken_moves (taken_at f at))

@@ -4,7 +4,7 @@
 --     cut_same      where locks go that don't cover it: a tree, or several roots' trees
 -- Assumes nothing.
 use Rattle.std.proofs.Common.{◌≡◌, ℕ, Bool, true, false, cond, ltb, List, [], ◌∷◌, map, length, sym, refl, ap, ◌∙◌, ap₂}
-use mathlib.Core.Option.{some}
+use Rattle.std.specs.Prelude.{Some}
 use mathlib.Core.List.Memᴰ
 use lib.ListN.{length-map}
 use Rattle.lists.specs.Tests.{◌or◌, non, Yes, No}
@@ -39,7 +39,7 @@ first_found : (e : ℕ) (l : List ActiveLock) → id_of (find (on e) l) ≡ firs
 unfolding ids_on
 first_found e [] = refl
 first_found e (x ∷ xs) =
-    elim (on e x) as (λ b. id_of (cond b (some x) (find (on e) xs)) ≡ first_of (map (λ a. a.lock.id) (cond b (x ∷ filter (on e) xs) (filter (on e) xs)))) [ true ↦ refl | false ↦ first_found e xs ]
+    elim (on e x) as (λ b. id_of (cond b (Some x) (find (on e) xs)) ≡ first_of (map (λ a. a.lock.id) (cond b (x ∷ filter (on e) xs) (filter (on e) xs)))) [ true ↦ refl | false ↦ first_found e xs ]
 
 entry_row : (l : List ActiveLock) (e : ℕ) → entry_of l e ≡ row_of (ids_on e l)
 unfolding entry_of count_on lowest_on ids_on

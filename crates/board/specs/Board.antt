@@ -1,7 +1,7 @@
 -- The board of control units. Document 02, C-11: "Keep beside the state, for all 256 ECUs, the number of active locks covering
 -- it and the lowest id among them, zeros if none." Assumes nothing.
 use Rattle.std.specs.Prelude.{ℕ, zero, suc, ◌*◌, Bool, cond, List, [], ◌∷◌, ◌++◌, length, take, ◌==◌}
-use Rattle.std.proofs.Math.Option.{Option, none, some}
+use Rattle.std.specs.Prelude.{Option, None, Some}
 use Rattle.lists.specs.Lists.{any, filter, find}
 use Rattle.lists.specs.Papers.{Paper, paper}
 use Rattle.names.specs.Bytes.{same_bytes}
@@ -11,13 +11,16 @@ use Rattle.coverage.specs.Coverage.{covers}
 use Rattle.state.specs.declared.ActiveLock.{ActiveLock}
 use Rattle.state.specs.declared.LockState.{LockState}
 use Rattle.state.specs.Model.{model_of}
+use Rattle.rules.specs.declared.Unsound.{Unsound}
+use Rattle.rules.specs.declared.Unsound.TheVariants.{Rule}
 use Rattle.lookups.specs.Reads.{on_sound}
 use Rattle.records.specs.Numbers.{part, bytes_of_all}
 use Rattle.records.specs.Wire.{id_bytes}
 use Rattle.records.specs.declared.requests.Request.{Request}
 use Rattle.records.specs.declared.requests.Request.TheVariants.{Insert, InsertVehicle, Renew, Delete, BeginExpiration, Replace, Acknowledge, ExpireDefunct}
-use Rattle.board.specs.declared.Checked.{Checked}
-use Rattle.board.specs.declared.Checked.TheVariants.{UnsoundState, BoardMismatch, Matches}
+use Rattle.std.specs.Prelude.{Result, Ok, Err, ⊤}
+use Rattle.board.specs.declared.BoardRefusal.{BoardRefusal}
+use Rattle.board.specs.declared.BoardRefusal.TheVariants.{UnsoundState, BoardMismatch}
 
 -- ---- the board of a list of active locks
 -- "covering it": the lock's coverage has ECU e, whatever its scope
@@ -30,8 +33,8 @@ count_on locks e = length (filter (on e) locks)
 
 -- "the lowest id among them, zeros if none": the first that covers it, since the list ascends (proofs/Lowest.antt)
 abbrev pub id_of : Option ActiveLock → LockId
-id_of none = no_id
-id_of (some lock) = lock.lock.id
+id_of None = no_id
+id_of (Some lock) = lock.lock.id
 
 unfoldable pub lowest_on : List ActiveLock → ℕ → LockId
 lowest_on locks e = id_of (find (on e) locks)
@@ -56,14 +59,18 @@ board_of locks = board_by (entry_of locks)
 unfoldable pub matches : LockState → List ℕ → Bool
 matches state board = same_bytes board (board_of (model_of state).active)
 
--- "28 BoardMismatch, after 12"
-unfoldable pub check_on : LockState → List ℕ → Checked
-check_on state board = on_sound state UnsoundState (cond (matches state board) Matches BoardMismatch)
+-- 12, with the rule
+abbrev pub unsound : Unsound → BoardRefusal
+unsound (Rule n) = UnsoundState n
 
-unfoldable pub checked_paper : Checked → Paper
-checked_paper (UnsoundState rule) = paper 12 (rule ∷ [])
-checked_paper BoardMismatch = paper 28 []
-checked_paper Matches = paper 0 []
+-- "28 BoardMismatch, after 12"
+unfoldable pub check_on : LockState → List ℕ → Result ⊤ BoardRefusal
+check_on state board = on_sound state (λ rule. Err (UnsoundState rule)) (cond (matches state board) (Ok tt) (Err BoardMismatch))
+
+unfoldable pub checked_paper : Result ⊤ BoardRefusal → Paper
+checked_paper (Err (UnsoundState rule)) = paper 12 (rule ∷ [])
+checked_paper (Err BoardMismatch) = paper 28 []
+checked_paper (Ok tt) = paper 0 []
 
 -- ---- "only ECUs covered by a lock that came or went are written"
 -- came: the lock that an insertion or a replacement brings, where it was done: the answer's number is 0

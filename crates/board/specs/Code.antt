@@ -1,7 +1,8 @@
 -- What only the contracts of the crate's own functions name: a reader of the board need not believe or read any of it.
-use Rattle.std.specs.Prelude.{◌≡◌, ℕ, ◌+◌, ◌%◌, ◌<◌, ◌≤◌, Bool, cond, List, [], ◌∷◌, slice_index}
+use Rattle.std.specs.Prelude.{◌≡◌, ℕ, ◌+◌, ◌%◌, ◌<◌, ◌≤◌, Bool, cond, List, [], ◌∷◌, slice_index, Option, None, Some, unwrap_or}
 use Rattle.lists.specs.Tests.{Yes, No}
 use Rattle.ids.specs.declared.LockId.{LockId}
+use Rattle.ids.specs.Order.{no_id}
 use Rattle.records.specs.Wire.{id_bytes}
 use Rattle.coverage.specs.declared.LockCoverage.{LockCoverage}
 use Rattle.coverage.specs.Coverage.{covers}
@@ -22,10 +23,15 @@ pub record Next (p : ℕ → Bool) (from r : ℕ) : Type 0 where
   pub passed : (e : ℕ) → from ≤ e → e < r → No (p e)
   pub here : r < 256 → Yes (p r)
 
--- an entry with one more lock, whose id is the lowest so far; or emptied, where the id is zeros
-unfoldable pub turned : Bool → LockId → List ℕ → List ℕ
-turned adding id old = cond adding ((slice_index old 0 + 1) % 256) 0 ∷ id_bytes id
+-- what an entry's count is after one more lock, or emptied, where there is none
+abbrev pub count_after : Option LockId → ℕ → ℕ
+count_after (Some id) count = (count + 1) % 256
+count_after None count = 0
+
+-- an entry with one more lock, whose id is the lowest so far; or emptied, where there is none
+unfoldable pub turned : Option LockId → List ℕ → List ℕ
+turned lock old = count_after lock (slice_index old 0) ∷ id_bytes (unwrap_or lock no_id)
 
 -- a board with the entries of the ECUs that pass turned
-unfoldable pub touched : (ℕ → Bool) → Bool → LockId → List ℕ → List ℕ
-touched p adding id board = board_by (λ e. cond (p e) (turned adding id (entry_at board e)) (entry_at board e))
+unfoldable pub touched : (ℕ → Bool) → Option LockId → List ℕ → List ℕ
+touched p lock board = board_by (λ e. cond (p e) (turned lock (entry_at board e)) (entry_at board e))

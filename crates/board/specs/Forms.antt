@@ -13,32 +13,37 @@ use Rattle.state.specs.declared.LockState.{LockState}
 use Rattle.state.specs.Locks.{blank_active}
 use Rattle.state.specs.Model.{model_of}
 use Rattle.lookups.specs.Reads.{on_sound}
-use Rattle.locks.specs.declared.Dropped.{Dropped}
-use Rattle.locks.specs.Locks.{delete_defunct_on, dropping_paper}
+use Rattle.locks.specs.Locks.{Dropped, delete_defunct_on, dropping_paper}
 use Rattle.records.specs.declared.requests.Request.{Request}
 use Rattle.calls.specs.declared.Performed.{Performed}
 use Rattle.calls.specs.Calls.{perform_on, outcome_paper}
 use Rattle.image.specs.declared.Spare.{Spare}
-use Rattle.image.specs.declared.Writing.{Writing}
-use Rattle.image.specs.declared.Writing.TheVariants as W
+use Rattle.std.specs.Prelude.{Result, Ok, Err, ⊤, Bool}
+use Rattle.image.specs.declared.WriteRefusal.{WriteRefusal}
+use Rattle.image.specs.declared.WriteRefusal.TheVariants as W
 use Rattle.feed.specs.declared.events.Step.{Step}
-use Rattle.feed.specs.declared.taking.Taken.{Taken}
-use Rattle.feed.specs.declared.taking.Taken.TheVariants as taken
+use Rattle.records.specs.declared.frame.Unread.{Unread}
+use Rattle.feed.specs.declared.taking.Placed.{Placed}
 use Rattle.feed.specs.Feed.{taken_at, step_on, event_paper}
-use Rattle.board.specs.declared.Checked.{Checked}
-use Rattle.board.specs.declared.Checked.TheVariants.{UnsoundState, BoardMismatch, Matches}
-use Rattle.board.specs.declared.BoardOutcome.{BoardOutcome}
-use Rattle.board.specs.declared.BoardOutcome.TheVariants as O
-use Rattle.board.specs.declared.BoardPerformed.{BoardPerformed}
-use Rattle.board.specs.declared.BoardDropping.{BoardDropping}
-use Rattle.board.specs.declared.BoardDropping.TheVariants as D
-use Rattle.board.specs.declared.BoardDropped.{BoardDropped}
-use Rattle.board.specs.declared.BoardEvent.{BoardEvent}
-use Rattle.board.specs.declared.BoardEvent.TheVariants as E
+use Rattle.board.specs.declared.BoardRefusal.{BoardRefusal}
+use Rattle.board.specs.declared.BoardRefusal.TheVariants.{UnsoundState, BoardMismatch}
+use Rattle.board.specs.declared.Mismatch.{Mismatch}
+use Rattle.board.specs.declared.Mismatch.TheVariants as M
+use Rattle.calls.specs.declared.Outcome.{Outcome}
+use Rattle.operations.specs.declared.answers.Left.{Left}
+use Rattle.board.specs.declared.BoardDeed.{BoardDeed}
+use Rattle.locks.specs.declared.DroppingRefusal.{DroppingRefusal}
+use Rattle.feed.specs.declared.events.FeedRefusal.{FeedRefusal}
 use Rattle.board.specs.declared.BoardStep.{BoardStep}
 use Rattle.board.specs.Board.{board_of, check_on, moved, updated}
 
--- ---- what a call gives, and the buffer as it leaves it
+-- ---- what a call gives, by the names of src/lib.rt, and the buffer as it leaves it
+abbrev pub BoardPerformed : Type 0
+BoardPerformed = Left BoardDeed
+
+abbrev pub BoardDropped : Type 0
+BoardDropped = Left (Result (Result Bool DroppingRefusal) Mismatch)
+
 pub record Boarded (A : Type 0) : Type 0 where
   pub done : A
   pub board : List ℕ
@@ -48,10 +53,10 @@ boarded done board = record { done = done; board = board }
 
 -- of an unsound state (12) the plain call's own answer; of another board 28; of the state's own the call. The first two leave the
 -- board
-abbrev pub by_check : {A : Type 0} → Checked → A → A → A → A
-by_check (UnsoundState rule) plain refused done = plain
-by_check BoardMismatch plain refused done = refused
-by_check Matches plain refused done = done
+abbrev pub by_check : {A : Type 0} → Result ⊤ BoardRefusal → A → A → A → A
+by_check (Err (UnsoundState rule)) plain refused done = plain
+by_check (Err BoardMismatch) plain refused done = refused
+by_check (Ok tt) plain refused done = done
 
 abbrev pub on_board : {A : Type 0} → LockState → List ℕ → A → A → List ℕ → Boarded A
 on_board state board plain refused after = by_check (check_on state board) (boarded plain board) (boarded refused board) (boarded plain after)
@@ -60,14 +65,14 @@ on_board state board plain refused after = by_check (check_on state board) (boar
 abbrev pub told : Performed → BoardPerformed
 told p =
     record {
-      told = record { outcome = O.Told p.outcome; gone = p.gone; removed = p.removed; lapsed = p.lapsed; ids = p.ids };
+      told = record { outcome = Ok p.outcome; gone = p.gone; removed = p.removed; lapsed = p.lapsed; ids = p.ids };
       state = p.state;
     }
 
 abbrev pub mismatched : LockState → BoardPerformed
 mismatched state =
     record {
-      told = record { outcome = O.BoardMismatch; gone = 0; removed = in_places 64 blank_active []; lapsed = 0; ids = in_places 128 no_id [] };
+      told = record { outcome = Err M.BoardMismatch; gone = 0; removed = in_places 64 blank_active []; lapsed = 0; ids = in_places 128 no_id [] };
       state = state;
     }
 
@@ -84,10 +89,10 @@ perform_board state request ids board =
 
 -- ---- delete_defunct: no active lock comes or goes, so the board is only read
 abbrev pub told_dropped : Dropped → BoardDropped
-told_dropped d = record { told = D.Told d.told; state = d.state }
+told_dropped d = record { told = Ok d.told; state = d.state }
 
 abbrev pub mismatched_dropped : LockState → BoardDropped
-mismatched_dropped state = record { told = D.BoardMismatch; state = state }
+mismatched_dropped state = record { told = Err M.BoardMismatch; state = state }
 
 unfoldable pub delete_defunct_board : LockState → LockId → ScopeKey → ℕ → List ℕ → BoardDropped
 delete_defunct_board state id scope subject board =
@@ -101,7 +106,7 @@ told_step st =
     record {
       told =
           record {
-            event = E.Told st.told.event;
+            event = Ok st.told.event;
             sequence = st.told.sequence;
             next = st.told.next;
             gone = st.told.gone;
@@ -118,7 +123,7 @@ mismatched_step spare at =
     record {
       told =
           record {
-            event = E.BoardMismatch;
+            event = Err M.BoardMismatch;
             sequence = 0;
             next = at;
             gone = 0;
@@ -133,11 +138,9 @@ mismatched_step spare at =
 abbrev pub request_moved : Request → Step → List ActiveLock
 request_moved request st = moved request (event_paper st.told.event).number st.told.gone st.told.removed
 
-abbrev pub taken_moved : Taken → Step → List ActiveLock
-taken_moved (taken.Torn at) st = []
-taken_moved (taken.BadKind at) st = []
-taken_moved (taken.BadField at) st = []
-taken_moved (taken.Record p) st = request_moved p.request st
+abbrev pub taken_moved : Result Placed Unread → Step → List ActiveLock
+taken_moved (Err unread) st = []
+taken_moved (Ok placed) st = request_moved placed.request st
 
 abbrev pub step_moved : List ℕ → ℕ → Step → List ActiveLock
 step_moved feed at st = taken_moved (taken_at feed at) st
@@ -154,20 +157,20 @@ unfoldable pub step_followed : List ℕ → ℕ → Step → List ℕ → List �
 step_followed feed at st board = cond (length board == 4352) (step_updated feed at st board) board
 
 -- ---- a board worked out afresh: 12, then 21, then the bytes from the buffer's start on
-unfoldable pub fresh_on : LockState → List ℕ → Boarded Writing
+unfoldable pub fresh_on : LockState → List ℕ → Boarded (Result ℕ WriteRefusal)
 fresh_on state out =
-    on_sound state (λ rule. boarded (W.UnsoundState rule) out)
-    (cond (nat_lt (length out) 4352) (boarded (W.ShortOutput 4352) out) (boarded (W.Done 4352) (board_of (model_of state).active ++ drop 4352 out)))
+    on_sound state (λ rule. boarded (Err (W.UnsoundState rule)) out)
+    (cond (nat_lt (length out) 4352) (boarded (Err (W.ShortOutput 4352)) out) (boarded (Ok 4352) (board_of (model_of state).active ++ drop 4352 out)))
 
 -- ---- on paper: 28 without data, or what the plain call's answer says
-unfoldable pub board_outcome_paper : BoardOutcome → Paper
-board_outcome_paper O.BoardMismatch = paper 28 []
-board_outcome_paper (O.Told outcome) = outcome_paper outcome
+unfoldable pub board_outcome_paper : Result Outcome Mismatch → Paper
+board_outcome_paper (Err M.BoardMismatch) = paper 28 []
+board_outcome_paper (Ok outcome) = outcome_paper outcome
 
-unfoldable pub board_dropping_paper : BoardDropping → Paper
-board_dropping_paper D.BoardMismatch = paper 28 []
-board_dropping_paper (D.Told dropping) = dropping_paper dropping
+unfoldable pub board_dropping_paper : Result (Result Bool DroppingRefusal) Mismatch → Paper
+board_dropping_paper (Err M.BoardMismatch) = paper 28 []
+board_dropping_paper (Ok dropping) = dropping_paper dropping
 
-unfoldable pub board_event_paper : BoardEvent → Paper
-board_event_paper E.BoardMismatch = paper 28 []
-board_event_paper (E.Told event) = event_paper event
+unfoldable pub board_event_paper : Result (Result Outcome FeedRefusal) Mismatch → Paper
+board_event_paper (Err M.BoardMismatch) = paper 28 []
+board_event_paper (Ok event) = event_paper event

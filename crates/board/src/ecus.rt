@@ -7,7 +7,8 @@ ghost use Rattle.board.specs.Code.{Next, Covers};
 
 use coverage::LockCoverage;
 
-// The ECUs that both cover.
+// The ECUs that both cover. coverage has the last arm for its own use (`in_both`): shared, it would be a public function that is
+// right of sets alone.
 pub(crate) fn common(a: LockCoverage, b: LockCoverage) -> LockCoverage
     ensures { Covers result (λ e. covers a e and covers b e) }
 {
@@ -39,7 +40,8 @@ pub(crate) fn joined(a: LockCoverage, b: LockCoverage) -> LockCoverage
     }
 }
 
-// The lowest covered ECU from `from` on, a word at a time: most locks cover few.
+// The lowest covered ECU from `from` on, a word at a time: most locks cover few. Its place isn't counted up: it goes on to the
+// next word.
 pub(crate) fn next_from(c: LockCoverage, from: usize) -> usize
     requires { from ≤ 256 }
     ensures { Next (covers c) from result }

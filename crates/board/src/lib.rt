@@ -8,22 +8,21 @@ mod ecus;
 mod entries;
 
 ghost use Rattle.std.specs.Prelude.{◌≡◌};
-ghost use Rattle.calls.specs.Calls.{perform_on};
-ghost use Rattle.locks.specs.Locks.{delete_defunct_on};
-ghost use Rattle.feed.specs.Feed.{step_on};
-ghost use Rattle.lookups.specs.Reads.{on_sound};
-ghost use Rattle.board.specs.Board.{matches, check_on};
+ghost use Rattle.rules.specs.declared.Unsound.{Unsound};
+ghost use Rattle.rules.specs.Rules.{broken_rule};
+ghost use Rattle.board.specs.Board.{matches, unsound, check_on};
 ghost use Rattle.board.specs.Forms.{boarded, told, mismatched, perform_board, told_dropped, mismatched_dropped, delete_defunct_board, told_step, mismatched_step, step_board, step_followed, fresh_on};
 
 use calls::{Outcome, Performed};
 use coverage::LockCoverage;
-use feed::events::{Event, Step};
+use feed::events::{FeedRefusal, Step, Told};
 use ids::LockId;
-use image::{Spare, Writing, write};
-use locks::{Dropped, Dropping};
+use image::{Spare, WriteRefusal};
+use locks::{Dropped, DroppingRefusal};
+use operations::answers::Left;
 use records::layout;
 use records::requests::Request;
-use rules::Verdict;
+use rules::Unsound;
 use state::{ActiveLock, LockState, ScopeKey};
 
 pub const ECUS: usize = 256;
@@ -34,58 +33,47 @@ pub const ENTRY: usize = 1 + layout::ID;
 // The bytes of a board.
 pub const SIZE: usize = ECUS * ENTRY;
 
-#[derive(Clone, Copy)]
-pub enum Checked {
+// 28: the board isn't the state's own.
+#[derive(Clone, Copy, PartialEq, Eq)]
+pub enum Mismatch {
+    BoardMismatch,
+}
+
+// 12 with the rule, then 28.
+#[derive(Clone, Copy, PartialEq, Eq)]
+pub enum BoardRefusal {
     UnsoundState(u8),
     BoardMismatch,
-    Matches,
 }
 
-// 28, or what the plain call answered.
-#[derive(Clone, Copy)]
-pub enum BoardOutcome {
-    BoardMismatch,
-    Told(Outcome),
+impl From<Unsound> for BoardRefusal {
+    ghost from_gives = { λ u r. r ≡ unsound u };
+
+    fn from(u: Unsound) -> BoardRefusal {
+        let Unsound::Rule(n) = u;
+        BoardRefusal::UnsoundState(n)
+    }
 }
 
-// As Performed of calls, the state apart: it is what an adapter lends.
+// As Performed of calls, the state apart: it is what an adapter lends. 28, or what the plain call answered. No generic type with
+// Performed, nor BoardTold with Told: nothing is written over both, and each theorem on a plain call would name its argument.
 #[derive(Clone, Copy)]
 pub struct BoardDeed {
-    pub outcome: BoardOutcome,
+    pub outcome: Result<Outcome, Mismatch>,
     pub gone: usize,
     pub removed: [ActiveLock; LockState::ACTIVE],
     pub lapsed: usize,
     pub ids: [LockId; LockState::DEFUNCT],
 }
 
-#[derive(Clone, Copy)]
-pub struct BoardPerformed {
-    pub told: BoardDeed,
-    pub state: LockState,
-}
+pub type BoardPerformed = Left<BoardDeed>;
 
-#[derive(Clone, Copy)]
-pub enum BoardDropping {
-    BoardMismatch,
-    Told(Dropping),
-}
-
-#[derive(Clone, Copy)]
-pub struct BoardDropped {
-    pub told: BoardDropping,
-    pub state: LockState,
-}
-
-#[derive(Clone, Copy)]
-pub enum BoardEvent {
-    BoardMismatch,
-    Told(Event),
-}
+pub type BoardDropped = Left<Result<Result<bool, DroppingRefusal>, Mismatch>>;
 
 // As Told of feed. 28 leaves the place where it is, and the spare.
 #[derive(Clone, Copy)]
 pub struct BoardTold {
-    pub event: BoardEvent,
+    pub event: Result<Result<Outcome, FeedRefusal>, Mismatch>,
     pub sequence: u32,
     pub next: usize,
     pub gone: usize,
@@ -104,63 +92,56 @@ pub struct BoardStep {
 pub fn matches(state: LockState, board: &[u8]) -> bool
     ensures { result ≡ matches state board.now }
 {
-    if board.len() != SIZE {
-        return false;
-    }
     let mut own = [0u8; SIZE];
-    let locks = state.active;
-    let n = write::at_most(state.actives, LockState::ACTIVE);
-    entries::fill(&mut own, locks, n, LockCoverage::vehicle());
-    entries::same(board, &own)
+    entries::fill(&mut own, state.active_locks(), LockCoverage::vehicle());
+    board == own.as_slice()
 }
 
 // 12, then 28: for whoever is handed a state and a board and makes no call.
-pub fn check(state: LockState, board: &[u8]) -> Checked
+pub fn check(state: LockState, board: &[u8]) -> Result<(), BoardRefusal>
     ensures { result ≡ check_on state board.now }
 {
-    if let Verdict::Broken(rule) = rules::broken(state) {
-        return Checked::UnsoundState(rule);
-    }
+    rules::broken(state)?;
     if matches(state, board) {
-        return Checked::Matches;
+        return Ok(());
     }
-    Checked::BoardMismatch
+    Err(BoardRefusal::BoardMismatch)
 }
 
 // 12, then 21; else the state's board from the buffer's start on. A refusal stores nothing.
-pub fn fresh(state: LockState, out: &mut [u8]) -> Writing
+pub fn fresh(state: LockState, out: &mut [u8]) -> Result<usize, WriteRefusal>
     ensures { boarded result out.new ≡ fresh_on state out.old }
 {
-    if let Verdict::Broken(rule) = rules::broken(state) {
-        return Writing::UnsoundState(rule);
-    }
+    rules::broken(state)?;
     if out.len() < SIZE {
-        return Writing::ShortOutput(SIZE);
+        return Err(WriteRefusal::ShortOutput(SIZE));
     }
-    let locks = state.active;
     entries::refresh(
-        &mut out[0..SIZE],
-        locks,
-        state.actives,
+        &mut out[..SIZE],
+        state.active_locks(),
         LockCoverage::vehicle(),
     );
-    Writing::Done(SIZE)
+    Ok(SIZE)
 }
 
 // ---- the calls
 fn told(done: Performed) -> BoardPerformed
     ensures { result ≡ told done }
 {
-    let outcome = done.outcome;
-    let removed = done.removed;
-    let ids = done.ids;
-    let state = done.state;
-    BoardPerformed {
+    let Performed {
+        outcome,
+        gone,
+        removed,
+        lapsed,
+        ids,
+        state,
+    } = done;
+    Left {
         told: BoardDeed {
-            outcome: BoardOutcome::Told(outcome),
-            gone: done.gone,
+            outcome: Ok(outcome),
+            gone,
             removed,
-            lapsed: done.lapsed,
+            lapsed,
             ids,
         },
         state,
@@ -170,12 +151,11 @@ fn told(done: Performed) -> BoardPerformed
 fn mismatched(state: LockState) -> BoardPerformed
     ensures { result ≡ mismatched state }
 {
-    let b = state::blank_active();
-    BoardPerformed {
+    Left {
         told: BoardDeed {
-            outcome: BoardOutcome::BoardMismatch,
+            outcome: Err(Mismatch::BoardMismatch),
             gone: 0,
-            removed: [b; LockState::ACTIVE],
+            removed: [state::blank_active(); LockState::ACTIVE],
             lapsed: 0,
             ids: [LockId { hi: 0, lo: 0 }; LockState::DEFUNCT],
         },
@@ -184,13 +164,15 @@ fn mismatched(state: LockState) -> BoardPerformed
 }
 
 // Another board: 12 comes first, and is the plain call's own answer.
-fn unmatched(state: LockState, request: Request, list: &[u64]) -> BoardPerformed
-    ensures { result ≡ on_sound state (λ n. told (perform_on state request list.now)) (mismatched state) }
+fn unmatched<T: Drop, F: FnOnce() -> T>(state: LockState, plain: F, mismatched: T) -> T
+    requires { F.IsAlwaysCallable plain }
+    ensures unsound { (u : Unsound) → broken_rule state ≡ Err u → F.post plain result }
+    ensures sound { broken_rule state ≡ Ok tt → result ≡ mismatched }
 {
-    if let Verdict::Broken(_) = rules::broken(state) {
-        return told(calls::perform(state, request, list));
+    match rules::broken(state) {
+        Err(_) => plain(),
+        Ok(()) => mismatched,
     }
-    mismatched(state)
 }
 
 // Any of the eight operations. The board is tested before it and follows it.
@@ -198,7 +180,11 @@ pub fn perform(state: LockState, request: Request, list: &[u64], board: &mut [u8
     ensures { boarded result board.new ≡ perform_board state request list.now board.old }
 {
     if !matches(state, board) {
-        return unmatched(state, request, list);
+        return unmatched(
+            state,
+            || told(calls::perform(state, request, list)),
+            mismatched(state),
+        );
     }
     let done = calls::perform(state, request, list);
     changes::follow_call(board, request, done);
@@ -208,22 +194,17 @@ pub fn perform(state: LockState, request: Request, list: &[u64], board: &mut [u8
 fn told_dropped(done: Dropped) -> BoardDropped
     ensures { result ≡ told_dropped done }
 {
-    let told = done.told;
-    let state = done.state;
-    BoardDropped {
-        told: BoardDropping::Told(told),
-        state,
+    Left {
+        told: Ok(done.told),
+        state: done.state,
     }
 }
 
-fn unmatched_dropped(state: LockState, id: LockId, scope: ScopeKey, subject: u16) -> BoardDropped
-    ensures { result ≡ on_sound state (λ n. told_dropped (delete_defunct_on state id scope subject)) (mismatched_dropped state) }
+fn mismatched_dropped(state: LockState) -> BoardDropped
+    ensures { result ≡ mismatched_dropped state }
 {
-    if let Verdict::Broken(_) = rules::broken(state) {
-        return told_dropped(locks::delete_defunct(state, id, scope, subject));
-    }
-    BoardDropped {
-        told: BoardDropping::BoardMismatch,
+    Left {
+        told: Err(Mismatch::BoardMismatch),
         state,
     }
 }
@@ -239,7 +220,11 @@ pub fn delete_defunct(
     ensures { result ≡ delete_defunct_board state id scope subject board.now }
 {
     if !matches(state, board) {
-        return unmatched_dropped(state, id, scope, subject);
+        return unmatched(
+            state,
+            || told_dropped(locks::delete_defunct(state, id, scope, subject)),
+            mismatched_dropped(state),
+        );
     }
     told_dropped(locks::delete_defunct(state, id, scope, subject))
 }
@@ -247,19 +232,24 @@ pub fn delete_defunct(
 fn told_step(step: Step) -> BoardStep
     ensures { result ≡ told_step step }
 {
-    let told = step.told;
-    let event = told.event;
-    let removed = told.removed;
-    let ids = told.ids;
-    let spare = step.spare;
+    let Step { told, spare } = step;
+    let Told {
+        event,
+        sequence,
+        next,
+        gone,
+        removed,
+        lapsed,
+        ids,
+    } = told;
     BoardStep {
         told: BoardTold {
-            event: BoardEvent::Told(event),
-            sequence: told.sequence,
-            next: told.next,
-            gone: told.gone,
+            event: Ok(event),
+            sequence,
+            next,
+            gone,
             removed,
-            lapsed: told.lapsed,
+            lapsed,
             ids,
         },
         spare,
@@ -269,29 +259,18 @@ fn told_step(step: Step) -> BoardStep
 fn mismatched_step(spare: Spare, at: usize) -> BoardStep
     ensures { result ≡ mismatched_step spare at }
 {
-    let b = state::blank_active();
     BoardStep {
         told: BoardTold {
-            event: BoardEvent::BoardMismatch,
+            event: Err(Mismatch::BoardMismatch),
             sequence: 0,
             next: at,
             gone: 0,
-            removed: [b; LockState::ACTIVE],
+            removed: [state::blank_active(); LockState::ACTIVE],
             lapsed: 0,
             ids: [LockId { hi: 0, lo: 0 }; LockState::DEFUNCT],
         },
         spare,
     }
-}
-
-fn unmatched_step(spare: Spare, feed: &[u8], at: usize) -> BoardStep
-    ensures { result ≡ on_sound spare.state (λ n. told_step (step_on spare feed.now at)) (mismatched_step spare at) }
-{
-    let state = spare.state;
-    if let Verdict::Broken(_) = rules::broken(state) {
-        return told_step(feed::step(spare, feed, at));
-    }
-    mismatched_step(spare, at)
 }
 
 // The board after a step that was made without it; a buffer of another size stays. For whoever must first see whether the step's
@@ -309,9 +288,12 @@ pub fn follow_step(board: &mut [u8], feed: &[u8], at: usize, step: Step)
 pub fn step(spare: Spare, feed: &[u8], at: usize, board: &mut [u8]) -> BoardStep
     ensures { boarded result board.new ≡ step_board spare feed.now at board.old }
 {
-    let state = spare.state;
-    if !matches(state, board) {
-        return unmatched_step(spare, feed, at);
+    if !matches(spare.state, board) {
+        return unmatched(
+            spare.state,
+            || told_step(feed::step(spare, feed, at)),
+            mismatched_step(spare, at),
+        );
     }
     let done = feed::step(spare, feed, at);
     changes::follow_record(board, feed, at, done);

@@ -9,14 +9,16 @@ use borrow.Author.Tests.{eq-eqb, ne_eqb}
 use Rattle.lists.specs.Tests.{Yes, No}
 use Rattle.lists.specs.Papers.{paper}
 use Rattle.lists.proofs.Tests.{cond_true, cond_false}
-use Rattle.rules.specs.declared.Verdict.{Verdict}
-use Rattle.rules.specs.declared.Verdict.TheVariants.{Sound, Broken}
+use Rattle.std.specs.Prelude.{Result, Ok, Err, ⊤}
+use Rattle.rules.specs.declared.Unsound.{Unsound}
+use Rattle.rules.specs.declared.Unsound.TheVariants.{Rule}
 use Rattle.rules.specs.Rules.{broken_rule}
 use Rattle.lookups.specs.Reads.{on_sound, by_verdict}
 use Rattle.image.specs.declared.Imaged.{Imaged}
-use Rattle.image.specs.declared.Reading.TheVariants as reading
+use Rattle.image.specs.declared.ImageRefusal.{ImageRefusal}
+use Rattle.image.specs.declared.ImageRefusal.TheVariants.{UnsoundState}
 use Rattle.image.specs.Image.{refusal, records_of, read_on, reading_paper}
-use Rattle.image.specs.Code.{is_done}
+use Rattle.std.specs.Result.{is_ok}
 use Rattle.image.proofs.Halves.{judged_by}
 use Rattle.feed.specs.declared.events.Step.{Step}
 use Rattle.feed.specs.Feed.{step_on, is_unsound, event_paper}
@@ -29,7 +31,7 @@ use Rattle.cablegorse.specs.Telling.{told_of, reading_told}
 use Rattle.cablegorse.specs.Changes.{still, Changed, changed, apply_of, left, delete_of}
 use Rattle.cablegorse.specs.Code.{step_shown}
 use Rattle.cablegorse.specs.Boards.{board_told, board_changed, followed_by, apply_board_of, delete_board_of}
-use Rattle.cablegorse.proofs.Images.{image_refused, image_read, done_told, records_refused, step_read}
+use Rattle.cablegorse.proofs.Images.{image_refused, image_read, records_refused, step_read}
 
 -- ---- refused: the image's refusals, or 28
 module _ (s b : List ℕ) (y : Told) (q : y ≡ board_told s b) where
@@ -51,52 +53,52 @@ module _ (s b : List ℕ) (y : Told) (q : y ≡ board_told s b) where
     unfolding delete_board_of
     delete_done h = sym (cond_true _ _ _ (eq-eqb _ 0 (sym (ap (λ (u : Told). u.number) q) ∙ h)))
 
--- ---- i is what the image says, tested, and t what is told of it
-module _ (s b : List ℕ) (i : Imaged) (e : i ≡ read_on s) (t : Told) (q : t ≡ reading_told i.told) where
-  pub told_refused : (t.number ≡ 0 → ⊥) → t ≡ board_told s b
+-- ---- i is what the image says, tested
+module _ (s b : List ℕ) (i : Imaged) (e : i ≡ read_on s) where
+  pub told_refused : (why : ImageRefusal) → i.told ≡ Err why → reading_told (Err why) ≡ board_told s b
   unfolding board_told
-  told_refused h = image_refused s (λ y. y) _ i e t q h
+  told_refused why h = image_refused s (λ y. y) _ i e why h
 
-  pub told_matched : t.number ≡ 0 → (m : Bool) → m ≡ matches i.spare.state b → told_of (paper (cond m 0 28) []) ≡ board_told s b
+  pub told_matched : i.told ≡ Ok tt → (m : Bool) → m ≡ matches i.spare.state b → told_of (paper (cond m 0 28) []) ≡ board_told s b
   unfolding board_told
-  told_matched h m g = ap (λ (k : Bool). told_of (paper (cond k 0 28) [])) g ∙ image_read s (λ y. y) (λ sp. told_of (paper (cond (matches sp.state b) 0 28) [])) i e t q h
+  told_matched h m g = ap (λ (k : Bool). told_of (paper (cond k 0 28) [])) g ∙ image_read s (λ y. y) (λ sp. told_of (paper (cond (matches sp.state b) 0 28) [])) i e h
 
 -- ---- i is what the records say, not tested
-module _ (s b : List ℕ) (i : Imaged) (e : i ≡ records_of s) (t : Told) (q : t ≡ reading_told i.told) where
-  pub records_told : (t.number ≡ 0 → ⊥) → t ≡ board_told s b
+module _ (s b : List ℕ) (i : Imaged) (e : i ≡ records_of s) where
+  pub records_told : (why : ImageRefusal) → i.told ≡ Err why → reading_told (Err why) ≡ board_told s b
   unfolding board_told
-  records_told h = records_refused s i e t q (λ y. y) _ h
+  records_told why h = records_refused s i e (λ y. y) _ why h
 
-  module _ (h : t.number ≡ 0) where
-    abbrev told_done : Yes (is_done i.told)
-    told_done = ap is_done (done_told i.told (sym (ap (λ (y : Told). y.number) q) ∙ h))
+  module _ (h : i.told ≡ Ok tt) where
+    abbrev told_done : Yes (is_ok i.told)
+    told_done = ap is_ok h
 
-    told_broken : (k : ℕ) → Broken k ≡ broken_rule i.spare.state → told_of (paper 12 (k ∷ [])) ≡ board_told s b
+    told_broken : (k : ℕ) → (Err (Rule k)) ≡ broken_rule i.spare.state → told_of (paper 12 (k ∷ [])) ≡ board_told s b
     unfolding board_told reading_told reading_paper
-    told_broken k g = image_refused s (λ y. y) _ (refusal (reading.UnsoundState k)) (judged_by s i e (Broken k) told_done g) (reading_told (reading.UnsoundState k)) refl (λ z. omega (arith, z))
+    told_broken k g = image_refused s (λ y. y) _ (refusal (UnsoundState k)) (judged_by s i e (Err (Rule k)) told_done g) (UnsoundState k) refl
 
-    told_sound : Sound ≡ broken_rule i.spare.state → (m : Bool) → m ≡ matches i.spare.state b → told_of (paper (cond m 0 28) []) ≡ board_told s b
-    told_sound g m z = told_matched s b i (judged_by s i e Sound told_done g) t q h m z
+    told_sound : (Ok tt) ≡ broken_rule i.spare.state → (m : Bool) → m ≡ matches i.spare.state b → told_of (paper (cond m 0 28) []) ≡ board_told s b
+    told_sound g m z = told_matched s b i (judged_by s i e (Ok tt) told_done g) h m z
 
     module _ (f : List ℕ) (at : ℕ) (n m x : List ℕ) where
       pub apply_mismatch : No (matches i.spare.state b) → (y : Told) → y ≡ on_sound i.spare.state (λ k. told_of (paper 12 (k ∷ []))) (told_of (paper 28 [])) → board_changed (changed (still y 0 0 at) n m x) b ≡ apply_board_of s b f at n m x
       unfolding on_sound
       apply_mismatch o y z = go (broken_rule i.spare.state) refl z
         where
-          go : (v : Verdict) → v ≡ broken_rule i.spare.state → y ≡ by_verdict v (λ k. told_of (paper 12 (k ∷ []))) (told_of (paper 28 [])) → board_changed (changed (still y 0 0 at) n m x) b ≡ apply_board_of s b f at n m x
-          go Sound g p = apply_refused s b y (p ∙ told_sound g false (sym o)) f at n m x (λ w. omega (arith, ap (λ (u : Told). u.number) p, w))
-          go (Broken k) g p = apply_refused s b y (p ∙ told_broken k g) f at n m x (λ w. omega (arith, ap (λ (u : Told). u.number) p, w))
+          go : (v : Result ⊤ Unsound) → v ≡ broken_rule i.spare.state → y ≡ by_verdict v (λ k. told_of (paper 12 (k ∷ []))) (told_of (paper 28 [])) → board_changed (changed (still y 0 0 at) n m x) b ≡ apply_board_of s b f at n m x
+          go (Ok tt) g p = apply_refused s b y (p ∙ told_sound g false (sym o)) f at n m x (λ w. omega (arith, ap (λ (u : Told). u.number) p, w))
+          go (Err (Rule k)) g p = apply_refused s b y (p ∙ told_broken k g) f at n m x (λ w. omega (arith, ap (λ (u : Told). u.number) p, w))
 
       pub apply_matched : Yes (matches i.spare.state b) → followed_by f at (step_on i.spare f at) b (step_shown at (step_on i.spare f at) n m x) ≡ apply_board_of s b f at n m x
       unfolding step_shown is_unsound event_paper
       apply_matched o = go (broken_rule i.spare.state) refl
         where
-          go : (v : Verdict) → v ≡ broken_rule i.spare.state → followed_by f at (step_on i.spare f at) b (step_shown at (step_on i.spare f at) n m x) ≡ apply_board_of s b f at n m x
-          go Sound g =
-              ap (followed_by f at (step_on i.spare f at) b) (step_read s i e t q h f at n m x)
-              ∙ ap (λ (j : Imaged). followed_by f at (step_on j.spare f at) b (apply_of s f at n m x)) (judged_by s i e Sound told_done g)
+          go : (v : Result ⊤ Unsound) → v ≡ broken_rule i.spare.state → followed_by f at (step_on i.spare f at) b (step_shown at (step_on i.spare f at) n m x) ≡ apply_board_of s b f at n m x
+          go (Ok tt) g =
+              ap (followed_by f at (step_on i.spare f at) b) (step_read s i e h f at n m x)
+              ∙ ap (λ (j : Imaged). followed_by f at (step_on j.spare f at) b (apply_of s f at n m x)) (judged_by s i e (Ok tt) told_done g)
               ∙ apply_done s b (told_of (paper 0 [])) (told_sound g true (sym o)) f at n m x refl
-          go (Broken k) g =
+          go (Err (Rule k)) g =
               ap (λ (st : Step). followed_by f at st b (step_shown at st n m x)) (step_unsound i.spare f at k (sym g))
               ∙ apply_refused s b (told_of (paper 12 (k ∷ []))) (told_broken k g) f at n m x (λ w. omega (arith, w))
 

@@ -10,7 +10,7 @@ use borrow.Author.Tests.{lt-ltb, le-ltb, not-true, not-false}
 use Rattle.lists.specs.Tests.{◌or◌}
 use Rattle.lists.proofs.Tests.{or_code, cond_true, cond_false}
 use Rattle.lists.specs.Papers.{paper}
-use Rattle.locks.specs.declared.Dropped.{Dropped}
+use Rattle.locks.specs.Locks.{Dropped}
 use Rattle.locks.specs.Locks.{dropping_paper}
 use Rattle.records.specs.Numbers.{stored}
 use Rattle.records.specs.Wire.{id_bytes}

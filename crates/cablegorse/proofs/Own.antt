@@ -13,15 +13,15 @@ use Rattle.lists.specs.Tests.{◌and◌, ◌or◌, No}
 use Rattle.lists.specs.Papers.{paper}
 use Rattle.lists.proofs.Tests.{against, and_t, and_f, or_code, cond_true, cond_false}
 use Rattle.state.specs.declared.LockState.{LockState}
-use Rattle.rules.specs.declared.Verdict.{Verdict}
-use Rattle.rules.specs.declared.Verdict.TheVariants.{Sound, Broken}
+use Rattle.std.specs.Prelude.{Result, Ok, Err, ⊤}
+use Rattle.rules.specs.declared.Unsound.{Unsound}
+use Rattle.rules.specs.declared.Unsound.TheVariants.{Rule}
 use Rattle.rules.specs.Rules.{broken_rule}
 use Rattle.lookups.specs.Reads.{by_verdict, on_sound}
 use Rattle.lookups.proofs.Verdicts.{on_broken, on_sound_lem}
 use Rattle.records.specs.declared.requests.Request.{Request}
 use Rattle.records.specs.declared.requests.Request.TheVariants as request
-use Rattle.records.specs.declared.sending.Sent.{Sent}
-use Rattle.records.specs.declared.sending.Sent.TheVariants as sent
+use Rattle.records.specs.declared.sending.Unsent.{Unsent}
 use Rattle.records.specs.Numbers.{splice}
 use Rattle.records.specs.Sending.{normal_request, has_list, request_bytes, needed_on, Written, leaves, written_by, send_on, sent_paper}
 use Rattle.records.proofs.Sends.{body_size, length_of_body, sent_size, room_of}
@@ -30,8 +30,9 @@ use Rattle.image.specs.declared.Spare.{Spare}
 use Rattle.image.specs.declared.Imaged.{Imaged}
 use Rattle.image.specs.Image.{records_of}
 use Rattle.image.proofs.Stores.{Capped}
-use Rattle.feed.specs.declared.events.Event.{Event}
-use Rattle.feed.specs.declared.events.Event.TheVariants as E
+use Rattle.feed.specs.declared.events.FeedRefusal.{FeedRefusal}
+use Rattle.feed.specs.declared.events.FeedRefusal.TheVariants.{UnsoundState, Torn, BadKind, BadField, Repeat, Ahead}
+use Rattle.calls.specs.declared.Outcome.{Outcome}
 use Rattle.feed.specs.declared.events.Step.{Step}
 use Rattle.feed.specs.Feed.{step_on, event_paper, is_applied, is_unsound}
 use Rattle.feed.proofs.Turning.{sound_told, step_unsound}
@@ -39,9 +40,7 @@ use Rattle.cablegorse.specs.declared.Told.{Told}
 use Rattle.cablegorse.specs.declared.Applied.{Applied}
 use Rattle.cablegorse.specs.declared.Operation.{Operation}
 use Rattle.cablegorse.specs.declared.sending.Sizes.{Sizes}
-use Rattle.cablegorse.specs.declared.sending.Asked.{Asked}
-use Rattle.cablegorse.specs.declared.sending.Asked.TheVariants as asked
-use Rattle.cablegorse.specs.Telling.{told_of, reading_told, kept}
+use Rattle.cablegorse.specs.Telling.{told_of, kept}
 use Rattle.cablegorse.specs.Changes.{still, size_of, changed, removed_bytes, expired_bytes, any_short}
 use Rattle.cablegorse.specs.Code.{step_shown, sizes_in, refused_told, own_shown, own_of, request_shown}
 use Rattle.cablegorse.specs.Sending.{asked_of, on_asked, record_put, write_of, Performed, performed, with_record, quiet, own_put_lem, needed_put, asked_put, perform_of}
@@ -53,9 +52,9 @@ pub sound_ap : {A B : Type 0} (g : A → B) (s : LockState) (u : ℕ → A) (a :
 unfolding on_sound
 sound_ap {A} {B} g s u a = go (broken_rule s)
   where
-    go : (v : Verdict) → g (by_verdict v u a) ≡ by_verdict v (λ k. g (u k)) (g a)
-    go Sound = refl
-    go (Broken k) = refl
+    go : (v : Result ⊤ Unsound) → g (by_verdict v u a) ≡ by_verdict v (λ k. g (u k)) (g a)
+    go (Ok tt) = refl
+    go (Err (Rule k)) = refl
 
 -- ---- a record that was applied, and one that wasn't
 module _ (st : Step) (bytes n m x f : List ℕ) (b : Bool) (eb : b ≡ is_applied st.told.event) where
@@ -79,15 +78,15 @@ module _ (st : Step) (bytes n m x f : List ℕ) (b : Bool) (eb : b ≡ is_applie
     applies = sym eb ∙ not-false b h
 
     -- so it isn't the state that was refused
-    fine : (e : Event) → is_applied e ≡ true → is_unsound e ≡ false
+    fine : (e : Result Outcome FeedRefusal) → is_applied e ≡ true → is_unsound e ≡ false
     unfolding is_applied is_unsound
-    fine (E.UnsoundState k) t = absurd (against refl t)
-    fine (E.Torn at) t = refl
-    fine (E.BadKind at) t = refl
-    fine (E.BadField at) t = refl
-    fine (E.Repeat k) t = refl
-    fine (E.Ahead k) t = refl
-    fine (E.Applied o) t = refl
+    fine (Err (UnsoundState k)) t = absurd (against refl t)
+    fine (Err (Torn at)) t = refl
+    fine (Err (BadKind at)) t = refl
+    fine (Err (BadField at)) t = refl
+    fine (Err (Repeat k)) t = refl
+    fine (Err (Ahead k)) t = refl
+    fine (Ok o) t = refl
 
     abbrev tested : Sizes → Bool
     tested y = ((ltb (length n) y.image || ltb (length m) y.locks) || ltb (length x) y.ids) || ltb (length f) (length bytes)
@@ -121,7 +120,7 @@ room_last true m n e = absurd (against e refl)
 room_last false m n e = ltb-false m n e
 
 -- ---- the record that is due, written apart
-pub own_record : (q : ℕ) (r : Request) (ws out : List ℕ) (size : ℕ) → needed_on r ws ≡ sent.Done size → size ≤ length out → (w : Sent) (f : List ℕ) → leaves w f ≡ send_on q r ws out → take (size - 0) f ≡ request_bytes q r ws
+pub own_record : (q : ℕ) (r : Request) (ws out : List ℕ) (size : ℕ) → needed_on r ws ≡ Ok size → size ≤ length out → (w : Result ℕ Unsent) (f : List ℕ) → leaves w f ≡ send_on q r ws out → take (size - 0) f ≡ request_bytes q r ws
 unfolding send_on splice
 own_record q r ws out size e h w f g =
     let b : List ℕ = request_bytes q r ws in
@@ -140,20 +139,20 @@ few_bytes (request.Replace a) ws h = omega (arith, h refl)
 few_bytes (request.Acknowledge i) ws h = omega arith
 few_bytes (request.ExpireDefunct now) ws h = omega arith
 
-pub longest : (r : Request) (ws : List ℕ) (size : ℕ) → needed_on r ws ≡ sent.Done size → size ≤ 1133
+pub longest : (r : Request) (ws : List ℕ) (size : ℕ) → needed_on r ws ≡ Ok size → size ≤ 1133
 longest r ws size e =
     let k = room_of r ws size e in
     let held = room_held r ws size k (normal_request r) (size - 4) refl refl in
     omega (arith, body_room r ws size k 0, length_of_body 0 (normal_request r) ws, few_bytes (normal_request r) ws held.0)
 
 -- ---- any request
-module _ (sp : Spare) (r : Request) (ws n m x f : List ℕ) (t : Sent) (e : t ≡ needed_on r ws) where
+module _ (sp : Spare) (r : Request) (ws n m x f : List ℕ) (t : Result ℕ Unsent) (e : t ≡ needed_on r ws) where
   abbrev refusal : ℕ → Performed
   refusal k = quiet n m x f (still (told_of (paper 12 (k ∷ []))) 0 0 0)
 
-  pub asked_done : (size : ℕ) → t ≡ sent.Done size → own_of sp r ws n m x f ≡ request_shown sp r ws n m x f
+  pub asked_done : (size : ℕ) → t ≡ Ok size → own_of sp r ws n m x f ≡ request_shown sp r ws n m x f
   unfolding own_shown request_shown event_paper is_unsound
-  asked_done size g = by_verdict_lem (broken_rule sp.state) refl ∙ ap (λ (y : Sent). on_sound sp.state refusal (needed_put n m x f sp r ws y)) (sym g ∙ e)
+  asked_done size g = by_verdict_lem (broken_rule sp.state) refl ∙ ap (λ (y : Result ℕ Unsent). on_sound sp.state refusal (needed_put n m x f sp r ws y)) (sym g ∙ e)
     where
       bytes : List ℕ
       bytes = request_bytes sp.expected r ws
@@ -161,13 +160,13 @@ module _ (sp : Spare) (r : Request) (ws n m x f : List ℕ) (t : Sent) (e : t �
       put : Performed
       put = own_put_lem n m x f (step_on sp bytes 0) bytes
 
-      by_verdict_lem : (v : Verdict) → broken_rule sp.state ≡ v → own_shown (step_on sp bytes 0) bytes n m x f ≡ on_sound sp.state refusal put
-      by_verdict_lem Sound q = cond_false _ _ _ (sound_told sp bytes 0 q) ∙ on_sound_lem sp.state refusal put Sound (sym q) refl
-      by_verdict_lem (Broken k) q =
+      by_verdict_lem : (v : Result ⊤ Unsound) → broken_rule sp.state ≡ v → own_shown (step_on sp bytes 0) bytes n m x f ≡ on_sound sp.state refusal put
+      by_verdict_lem (Ok tt) q = cond_false _ _ _ (sound_told sp bytes 0 q) ∙ on_sound_lem sp.state refusal put (Ok tt) (sym q) refl
+      by_verdict_lem (Err (Rule k)) q =
           ap (λ (y : Step). own_shown y bytes n m x f) (step_unsound sp bytes 0 k q)
-          ∙ on_broken sp.state refusal put (Broken k) k (sym q) refl
+          ∙ on_broken sp.state refusal put (Err (Rule k)) k (sym q) refl
 
-  pub asked_refused : (y : Sent) → t ≡ y → needed_put n m x f sp r ws y ≡ quiet n m x f (still (told_of (sent_paper y)) 1 0 0) → (s : LockState) → s ≡ sp.state → (p : Told) → p ≡ told_of (sent_paper y) → (a : Applied) → a ≡ refused_told s p
+  pub asked_refused : (y : Result ℕ Unsent) → t ≡ y → needed_put n m x f sp r ws y ≡ quiet n m x f (still (told_of (sent_paper y)) 1 0 0) → (s : LockState) → s ≡ sp.state → (p : Told) → p ≡ told_of (sent_paper y) → (a : Applied) → a ≡ refused_told s p
       → performed a n m x f ≡ request_shown sp r ws n m x f
   unfolding refused_told request_shown
   asked_refused y g q s us p ep a ea =
@@ -176,30 +175,30 @@ module _ (sp : Spare) (r : Request) (ws n m x f : List ℕ) (t : Sent) (e : t �
       ∙ ap (on_sound sp.state refusal) (sym q ∙ ap (needed_put n m x f sp r ws) (sym g ∙ e))
 
 -- ---- the record alone
-pub record_told : (q : ℕ) (o : Operation) (r : Request) (ws out : List ℕ) → asked.Request r ≡ asked_of o → (w : Sent) (f : List ℕ) → leaves w f ≡ send_on q r ws out → (t : Told) → t ≡ told_of (sent_paper w) → kept t f ≡ write_of q o ws out
+pub record_told : (q : ℕ) (o : Operation) (r : Request) (ws out : List ℕ) → (Ok r) ≡ asked_of o → (w : Result ℕ Unsent) (f : List ℕ) → leaves w f ≡ send_on q r ws out → (t : Told) → t ≡ told_of (sent_paper w) → kept t f ≡ write_of q o ws out
 unfolding write_of
 record_told q o r ws out e w f g t et =
     ap (λ (y : Told). kept y f) et ∙ ap (λ (y : Written). kept (told_of (sent_paper y.told)) y.out) g
     ∙ ap (on_asked (λ y. kept y out) (record_put q ws out)) e
 
 -- ---- over an image whose state the operation tests
-module _ (s : List ℕ) (i : Imaged) (e : i ≡ records_of s) (t : Told) (q : t ≡ reading_told i.told) (h : t.number ≡ 0) (o : Operation) (ws n m x f : List ℕ) where
+module _ (s : List ℕ) (i : Imaged) (e : i ≡ records_of s) (h : i.told ≡ Ok tt) (o : Operation) (ws n m x f : List ℕ) where
   over_image : on_sound i.spare.state (λ k. quiet n m x f (still (told_of (paper 12 (k ∷ []))) 0 0 0)) (asked_put n m x f i.spare ws (asked_of o)) ≡ perform_of s o ws n m x f
   unfolding perform_of
-  over_image = tested_read s i e t q h (λ y. quiet n m x f (still y 0 0 0)) (λ sp. asked_put n m x f sp ws (asked_of o))
+  over_image = tested_read s i e h (λ y. quiet n m x f (still y 0 0 0)) (λ sp. asked_put n m x f sp ws (asked_of o))
 
-  pub perform_refused : (p : Told) → asked.Refused p ≡ asked_of o → (a : Applied) → a ≡ refused_told i.spare.state p → performed a n m x f ≡ perform_of s o ws n m x f
+  pub perform_refused : (p : Told) → (Err p) ≡ asked_of o → (a : Applied) → a ≡ refused_told i.spare.state p → performed a n m x f ≡ perform_of s o ws n m x f
   unfolding refused_told
   perform_refused p ep a ea =
       ap (λ (z : Applied). performed z n m x f) ea
       ∙ sound_ap (λ (z : Applied). performed z n m x f) i.spare.state (λ k. still (told_of (paper 12 (k ∷ []))) 0 0 0) (still p 1 0 0)
-      ∙ ap (λ (z : Asked). on_sound i.spare.state (λ k. quiet n m x f (still (told_of (paper 12 (k ∷ []))) 0 0 0)) (asked_put n m x f i.spare ws z)) ep
+      ∙ ap (λ (z : Result Request Told). on_sound i.spare.state (λ k. quiet n m x f (still (told_of (paper 12 (k ∷ []))) 0 0 0)) (asked_put n m x f i.spare ws z)) ep
       ∙ over_image
 
-  pub perform_asked : (r : Request) → asked.Request r ≡ asked_of o → (y : Performed) → y ≡ request_shown i.spare r ws n m x f → y ≡ perform_of s o ws n m x f
+  pub perform_asked : (r : Request) → (Ok r) ≡ asked_of o → (y : Performed) → y ≡ request_shown i.spare r ws n m x f → y ≡ perform_of s o ws n m x f
   unfolding request_shown
   perform_asked r er y ey =
-      ey ∙ ap (λ (z : Asked). on_sound i.spare.state (λ k. quiet n m x f (still (told_of (paper 12 (k ∷ []))) 0 0 0)) (asked_put n m x f i.spare ws z)) er
+      ey ∙ ap (λ (z : Result Request Told). on_sound i.spare.state (λ k. quiet n m x f (still (told_of (paper 12 (k ∷ []))) 0 0 0)) (asked_put n m x f i.spare ws z)) er
       ∙ over_image
 
 -- ---- the sizes

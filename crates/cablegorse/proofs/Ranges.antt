@@ -1,88 +1,68 @@
--- Numbers in their ranges: the code's tests for one that is out are the definitions' tests for all that are in. Assumes nothing.
+-- Numbers in their ranges: where a number fits its type, the definitions' tests pass. Assumes nothing.
 use mathlib.Core.Path.{◌≡◌, refl, sym, ap, ◌∙◌}
-use mathlib.Core.Bool.{Bool, true, false, not, ◌||◌, true≢false, false≢true}
-use Prim.Native.Nat.{ℕ, ◌≤◌}
-use lib.Dec.{leb, ltb}
-use borrow.Author.Tests.{ltb-true, ltb-false, le-leb, lt-leb, not-true, not-false}
+use mathlib.Core.Bool.{true, false, cond}
+use Prim.Native.Nat.{ℕ, ◌≤◌, ◌<◌}
+use lib.Dec.{leb}
+use borrow.Author.Tests.{le-leb, lt-leb}
 use Rattle.lists.specs.Tests.{◌and◌}
-use Rattle.lists.proofs.Tests.{and_t, and_f, cond_true, cond_false}
+use native.Mathlib.Decide.{dec_lt}
+use native.Mathlib.Omega.{arith}
+use Rattle.std.specs.Prelude.{Ok, Err, Some, None}
+use Rattle.lookups.specs.declared.TesterPresent.TheVariants as present
 use Rattle.records.specs.Wire.{scope_right, scope_of}
-use Rattle.state.specs.declared.ScopeKey.{ScopeKey}
-use Rattle.cablegorse.specs.declared.arguments.Scoped.TheVariants as scoped
-use Rattle.cablegorse.specs.Questions.{scoped_of}
-
-and_r_f : (a b : Bool) → b ≡ false → (a and b) ≡ false
-unfolding ◌and◌
-and_r_f true b e = e
-and_r_f false b e = refl
+use Rattle.cablegorse.specs.Questions.{bad_told, scoped_of, tester_of, tester_told}
+use Rattle.lists.proofs.Tests.{and_t, and_f, and_comm, cond_true, cond_false}
 
 -- ---- a at most m, and b at most n
-module _ (a m b n : ℕ) where
-  pub both_in : (ltb m a || ltb n b) ≡ false → (a ≤ m) × (b ≤ n)
-  both_in e = go (ltb m a) (ltb n b) refl refl e
-    where
-      go : (p q : Bool) → ltb m a ≡ p → ltb n b ≡ q → (p || q) ≡ false → (a ≤ m) × (b ≤ n)
-      go true q u v e = absurd (true≢false e)
-      go false true u v e = absurd (true≢false e)
-      go false false u v e = (ltb-false m a u, ltb-false n b v)
+module _ {A : Type 0} (a m b n : ℕ) (x y : A) where
+  pub first_out : m < a → y ≡ cond (leb a m and leb b n) x y
+  first_out h = sym (cond_false _ x y (and_f (leb a m) (leb b n) (lt-leb a m h)))
 
-  pub one_out : (ltb m a || ltb n b) ≡ true → (leb a m and leb b n) ≡ false
-  one_out e = go (ltb m a) (ltb n b) refl refl e
-    where
-      go : (p q : Bool) → ltb m a ≡ p → ltb n b ≡ q → (p || q) ≡ true → (leb a m and leb b n) ≡ false
-      go true q u v e = and_f (leb a m) (leb b n) (lt-leb a m (ltb-true m a u))
-      go false true u v e = and_r_f (leb a m) (leb b n) (lt-leb b n (ltb-true n b v))
-      go false false u v e = absurd (false≢true e)
+  pub last_out : n < b → y ≡ cond (leb a m and leb b n) x y
+  last_out h = sym (cond_false _ x y (and_comm (leb a m) (leb b n) ∙ and_f (leb b n) (leb a m) (lt-leb b n h)))
 
-  pub both_test : (ltb m a || ltb n b) ≡ false → (leb a m and leb b n) ≡ true
-  both_test e = and_t (leb a m) (leb b n) (le-leb a m (both_in e).0) ∙ le-leb b n (both_in e).1
-
--- ---- x from 1 to 2, and n a byte
-module _ (x n : ℕ) where
-  abbrev out : Bool
-  out = (ltb x 1 || ltb 2 x) || ltb 255 n
-
-  pub byte_in : out ≡ false → n ≤ 255
-  byte_in e = go (ltb x 1 || ltb 2 x) (ltb 255 n) refl e
-    where
-      go : (p q : Bool) → ltb 255 n ≡ q → (p || q) ≡ false → n ≤ 255
-      go true q u e = absurd (true≢false e)
-      go false true u e = absurd (true≢false e)
-      go false false u e = ltb-false 255 n u
-
-  pub needed_test : out ≡ false → (leb 1 x and leb x 2 and leb n 255) ≡ true
-  needed_test e = go (ltb x 1) (ltb 2 x) (ltb 255 n) refl refl refl e
-    where
-      go : (o p q : Bool) → ltb x 1 ≡ o → ltb 2 x ≡ p → ltb 255 n ≡ q → ((o || p) || q) ≡ false → (leb 1 x and leb x 2 and leb n 255) ≡ true
-      go true p q t u v e = absurd (true≢false e)
-      go false true q t u v e = absurd (true≢false e)
-      go false false true t u v e = absurd (true≢false e)
-      go false false false t u v e =
-          and_t (leb 1 x and leb x 2) (leb n 255) (and_t (leb 1 x) (leb x 2) (le-leb 1 x (ltb-false x 1 t)) ∙ le-leb x 2 (ltb-false 2 x u)) ∙ le-leb n 255 (ltb-false 255 n v)
-
-  pub needed_out : out ≡ true → (leb 1 x and leb x 2 and leb n 255) ≡ false
-  needed_out e = go (ltb x 1) (ltb 2 x) (ltb 255 n) refl refl refl e
-    where
-      go : (o p q : Bool) → ltb x 1 ≡ o → ltb 2 x ≡ p → ltb 255 n ≡ q → ((o || p) || q) ≡ true → (leb 1 x and leb x 2 and leb n 255) ≡ false
-      go true p q t u v e = and_f (leb 1 x and leb x 2) (leb n 255) (and_f (leb 1 x) (leb x 2) (lt-leb 1 x (ltb-true x 1 t)))
-      go false true q t u v e = and_f (leb 1 x and leb x 2) (leb n 255) (and_r_f (leb 1 x) (leb x 2) (lt-leb x 2 (ltb-true 2 x u)))
-      go false false true t u v e = and_r_f (leb 1 x and leb x 2) (leb n 255) (lt-leb n 255 (ltb-true 255 n v))
-      go false false false t u v e = absurd (false≢true e)
+  pub both_in : a ≤ m → b ≤ n → x ≡ cond (leb a m and leb b n) x y
+  both_in h k = sym (cond_true _ x y (and_t (leb a m) (leb b n) (le-leb a m h) ∙ le-leb b n k))
 
 -- ---- a scope of a kind and a number
 module _ (k n : ℕ) where
-  pub scope_out : (ltb 255 k || ltb 255 n) ≡ true → scoped.Bad ≡ scoped_of k n
+  pub kind_out : 255 < k → None ≡ scoped_of k n
   unfolding scoped_of
-  scope_out e = sym (cond_false _ _ _ (and_f (leb k 255 and leb n 255) (scope_right k n) (one_out k 255 n 255 e)))
+  kind_out h = sym (cond_false _ _ _ (and_f (leb k 255 and leb n 255) (scope_right k n) (and_f (leb k 255) (leb n 255) (lt-leb k 255 h))))
 
-  module _ (e : (ltb 255 k || ltb 255 n) ≡ false) (r : Bool) (q : r ≡ scope_right k n) where
-    whole : (leb k 255 and leb n 255 and scope_right k n) ≡ r
-    whole = and_t (leb k 255 and leb n 255) (scope_right k n) (both_test k 255 n 255 e) ∙ sym q
+  pub number_out : 255 < n → None ≡ scoped_of k n
+  unfolding scoped_of
+  number_out h = sym (cond_false _ _ _ (and_f (leb k 255 and leb n 255) (scope_right k n) (and_comm (leb k 255) (leb n 255) ∙ and_f (leb n 255) (leb k 255) (lt-leb n 255 h))))
 
-    pub scope_wrong : not r ≡ true → scoped.Bad ≡ scoped_of k n
+  module _ (h : k ≤ 255) (g : n ≤ 255) where
+    by_scope : scoped_of k n ≡ cond (scope_right k n) (Some (scope_of k n)) None
     unfolding scoped_of
-    scope_wrong t = sym (cond_false _ _ _ (whole ∙ not-true r t))
+    by_scope = ap (λ b. cond (b and scope_right k n) (Some (scope_of k n)) None) (and_t (leb k 255) (leb n 255) (le-leb k 255 h) ∙ le-leb n 255 g) ∙ ap (λ b. cond b (Some (scope_of k n)) None) (and_t true (scope_right k n) refl)
 
-    pub scope_there : not r ≡ false → (x : ScopeKey) → x ≡ scope_of k n → scoped.At x ≡ scoped_of k n
-    unfolding scoped_of
-    scope_there t x h = ap scoped.At h ∙ sym (cond_true _ _ _ (whole ∙ not-false r t))
+    pub scope_wrong : scope_right k n ≡ false → None ≡ scoped_of k n
+    scope_wrong r = sym (by_scope ∙ cond_false _ _ _ r)
+
+    pub scope_there : scope_right k n ≡ true → Some (scope_of k n) ≡ scoped_of k n
+    scope_there r = sym (by_scope ∙ cond_true _ _ _ r)
+
+-- ---- an ECU or a group, by its kind and its number
+module _ (x n : ℕ) where
+  pub tester_past : 255 < n → Err bad_told ≡ tester_told x n
+  unfolding tester_told
+  tester_past h = sym (cond_false _ _ _ (and_comm (leb 1 x and leb x 2) (leb n 255) ∙ and_f (leb n 255) _ (lt-leb n 255 h)))
+
+  module _ (h : n ≤ 255) where
+    pub tester_ecu : x ≡ 1 → Ok (present.Ecu n) ≡ tester_told x n
+    unfolding tester_told tester_of ◌and◌
+    tester_ecu e = rw (e, le-leb n 255 h)
+
+    pub tester_group : x ≡ 2 → Ok (present.Functional n) ≡ tester_told x n
+    unfolding tester_told tester_of ◌and◌
+    tester_group e = rw (e, le-leb n 255 h)
+
+    pub tester_none : (x ≡ 1 → ⊥) → (x ≡ 2 → ⊥) → Err bad_told ≡ tester_told x n
+    unfolding tester_told
+    tester_none f g = sym (cond_false _ _ _ (and_f (leb 1 x and leb x 2) (leb n 255) (elim (dec_lt x 1) [
+      | yes l ↦ and_f (leb 1 x) (leb x 2) (lt-leb 1 x l)
+      | no l ↦ and_comm (leb 1 x) (leb x 2) ∙ and_f (leb x 2) (leb 1 x) (lt-leb x 2 (omega arith))
+    ])))

@@ -2,8 +2,10 @@
 use Rattle.std.specs.Prelude.{Bool, cond, List, [], ◌∷◌, ℕ, eqb, length}
 use Rattle.lists.specs.Papers.{paper}
 use Rattle.locks.specs.Locks.{response_of, prepare_update_on, update_paper}
-use Rattle.names.specs.declared.NameAt.{NameAt}
-use Rattle.names.specs.declared.NameAt.TheVariants as place
+use Rattle.std.specs.Prelude.{Result, Option, Ok, Err, Some, None}
+use Rattle.names.specs.declared.Place.{Place}
+use Rattle.names.specs.declared.TableRefusal.{TableRefusal}
+use Rattle.names.specs.declared.TableRefusal.TheVariants as table
 use Rattle.names.specs.Answers.{number_of, place_at, name_at}
 use Rattle.image.specs.declared.Spare.{Spare}
 use Rattle.image.specs.Image.{read_on}
@@ -31,10 +33,10 @@ unfoldable pub name_number_of : Bool → List ℕ → List ℕ → Kept
 name_number_of folding t name = kept (named_told (number_of folding t name).told) (number_of folding t name).table
 
 -- 27; 0 where the number has no name; else 1, the name's length and its bytes
-abbrev pub name_put : List ℕ → List ℕ → NameAt → Kept
-name_put name out place.BadTable = kept (told_of (paper 27 [])) out
-name_put name out place.Nothing = kept (told_of (paper 0 (0 ∷ []))) out
-name_put name out (place.Found start len) = fitted (told_of (paper 0 (1 ∷ (length name ∷ [])))) name out
+abbrev pub name_put : List ℕ → List ℕ → Result (Option Place) TableRefusal → Kept
+name_put name out (Err table.BadTable) = kept (told_of (paper 27 [])) out
+name_put name out (Ok None) = kept (told_of (paper 0 (0 ∷ []))) out
+name_put name out (Ok (Some p)) = fitted (told_of (paper 0 (1 ∷ (length name ∷ [])))) name out
 
 unfoldable pub name_at_of : Bool → List ℕ → ℕ → List ℕ → Kept
 name_at_of folding t number out = name_put (name_at folding t number) out (place_at folding t number)

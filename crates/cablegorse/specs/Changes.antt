@@ -6,9 +6,10 @@ use Rattle.lists.specs.Tests.{◌or◌}
 use Rattle.state.specs.declared.ScopeKey.{ScopeKey}
 use Rattle.state.specs.Model.{model_of}
 use Rattle.lists.specs.Papers.{paper}
-use Rattle.locks.specs.declared.Dropping.{Dropping}
-use Rattle.locks.specs.declared.Dropping.TheVariants as dropping
-use Rattle.locks.specs.declared.Dropped.{Dropped}
+use Rattle.std.specs.Prelude.{Result, Option, Ok, Err, Some, None}
+use Rattle.locks.specs.declared.DroppingRefusal.{DroppingRefusal}
+use Rattle.locks.specs.declared.DroppingRefusal.TheVariants.{RevisionOverflow, UnsoundState, Forbidden}
+use Rattle.locks.specs.Locks.{Dropped}
 use Rattle.locks.specs.Locks.{delete_defunct_on, dropping_paper}
 use Rattle.records.specs.Numbers.{stored, bytes_of_all}
 use Rattle.records.specs.Wire.{id, id_bytes}
@@ -19,8 +20,6 @@ use Rattle.feed.specs.declared.events.Step.{Step}
 use Rattle.feed.specs.Feed.{step_on, event_paper, is_applied}
 use Rattle.cablegorse.specs.declared.Told.{Told}
 use Rattle.cablegorse.specs.declared.Applied.{Applied}
-use Rattle.cablegorse.specs.declared.arguments.Scoped.{Scoped}
-use Rattle.cablegorse.specs.declared.arguments.Scoped.TheVariants as scoped
 use Rattle.cablegorse.specs.Telling.{told_of}
 use Rattle.cablegorse.specs.Boundary.{on_image}
 use Rattle.cablegorse.specs.Questions.{scoped_of}
@@ -110,12 +109,12 @@ abbrev pub left : Applied → List ℕ → Left
 left t n = record { told = t; next = n }
 
 -- the entry is gone: true, or 8
-unfoldable pub is_gone : Dropping → Bool
-is_gone dropping.Done = true
-is_gone dropping.Absent = false
-is_gone dropping.RevisionOverflow = true
-is_gone (dropping.UnsoundState n) = false
-is_gone dropping.Forbidden = false
+unfoldable pub is_gone : Result Bool DroppingRefusal → Bool
+is_gone (Ok true) = true
+is_gone (Ok false) = false
+is_gone (Err RevisionOverflow) = true
+is_gone (Err (UnsoundState n)) = false
+is_gone (Err Forbidden) = false
 
 abbrev pub spare_after : ℕ → Dropped → Spare
 spare_after e d = record { state = d.state; expected = e }
@@ -129,9 +128,9 @@ drop_put e d n =
     (left (still (told_of (dropping_paper d.told)) 2 0 0) n)
 
 -- 19 for a scope that there is not
-abbrev pub on_scoped_left : List ℕ → (ScopeKey → Left) → Scoped → Left
-on_scoped_left n go scoped.Bad = left (still (told_of (paper 19 (0 ∷ []))) 1 0 0) n
-on_scoped_left n go (scoped.At k) = go k
+abbrev pub on_scoped_left : List ℕ → (ScopeKey → Left) → Option ScopeKey → Left
+on_scoped_left n go None = left (still (told_of (paper 19 (0 ∷ []))) 1 0 0) n
+on_scoped_left n go (Some k) = go k
 
 unfoldable pub delete_of : List ℕ → ℕ → ℕ → ℕ → ℕ → ℕ → List ℕ → Left
 delete_of s hi lo kind number subject n =

@@ -5,8 +5,8 @@ use Rattle.std.specs.Prelude.{cond, List, [], ℕ, ltb, length}
 use Rattle.lists.specs.Papers.{paper}
 use Rattle.records.specs.Numbers.{stored}
 use Rattle.feed.specs.declared.following.Run.{Run}
-use Rattle.feed.specs.declared.following.Stop.{Stop}
-use Rattle.feed.specs.declared.following.Stop.TheVariants as stop
+use Rattle.std.specs.Prelude.{Result, Ok, Err, ⊤}
+use Rattle.feed.specs.declared.events.FeedRefusal.{FeedRefusal}
 use Rattle.feed.specs.Feed.{event_paper}
 use Rattle.feed.specs.Runs.{fresh, follow_on}
 use Rattle.cablegorse.specs.declared.Told.{Told}
@@ -34,13 +34,13 @@ followed t part expected place read applied written =
       written = written;
     }
 
-unfoldable pub stop_told : Stop → Told
-stop_told stop.End = told_of (paper 0 [])
-stop_told (stop.At e) = told_of (event_paper e)
+unfoldable pub stop_told : Result ⊤ FeedRefusal → Told
+stop_told (Ok _) = told_of (paper 0 [])
+stop_told (Err why) = told_of (event_paper (Err why))
 
-unfoldable pub stop_part : Stop → ℕ
-stop_part stop.End = 2
-stop_part (stop.At e) = 1
+unfoldable pub stop_part : Result ⊤ FeedRefusal → ℕ
+stop_part (Ok _) = 2
+stop_part (Err why) = 1
 
 -- the answer, and the buffer as the call leaves it
 pub record Chunked : Type 0 where

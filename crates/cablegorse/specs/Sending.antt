@@ -7,8 +7,8 @@ use Rattle.lists.specs.Papers.{paper}
 use Rattle.state.specs.declared.ActiveLock.{ActiveLock}
 use Rattle.records.specs.declared.requests.Request.{Request}
 use Rattle.records.specs.declared.requests.Request.TheVariants as request
-use Rattle.records.specs.declared.sending.Sent.{Sent}
-use Rattle.records.specs.declared.sending.Sent.TheVariants as sent
+use Rattle.std.specs.Prelude.{Result, Ok, Err}
+use Rattle.records.specs.declared.sending.Unsent.{Unsent}
 use Rattle.records.specs.Numbers.{splice}
 use Rattle.records.specs.Wire.{id, scope_of}
 use Rattle.records.specs.Sending.{request_bytes, needed_on, send_on, sent_paper}
@@ -18,15 +18,13 @@ use Rattle.feed.specs.Feed.{step_on, is_applied}
 use Rattle.cablegorse.specs.declared.Told.{Told}
 use Rattle.cablegorse.specs.declared.Applied.{Applied}
 use Rattle.cablegorse.specs.declared.Operation.{Operation}
-use Rattle.cablegorse.specs.declared.sending.Asked.{Asked}
-use Rattle.cablegorse.specs.declared.sending.Asked.TheVariants as asked
 use Rattle.cablegorse.specs.Telling.{told_of, Kept, kept}
 use Rattle.cablegorse.specs.Boundary.{on_image}
 use Rattle.cablegorse.specs.Changes.{still, Changed, size_of, removed_bytes, expired_bytes, any_short, step_put}
 
 -- ---- the operation as numbers: 18 for a kind that no feed has, 19 for a number that its field can't have
-abbrev pub bad_asked : Asked
-bad_asked = asked.Refused (told_of (paper 19 (0 ∷ [])))
+abbrev pub bad_asked : Result Request Told
+bad_asked = Err (told_of (paper 19 (0 ∷ [])))
 
 abbrev pub lock_right : Operation → Bool
 lock_right o = leb o.scope 2 and leb o.exclusive 1 and leb o.coverage 1 and leb o.child 1
@@ -50,38 +48,38 @@ lock_in o =
       child = eqb o.child 1;
     }
 
-unfoldable pub asked_lock : Operation → Asked
+unfoldable pub asked_lock : Operation → Result Request Told
 asked_lock o =
     cond (lock_right o)
-    (cond (eqb o.kind 16) (asked.Request (request.Insert (lock_in o)))
-    (cond (eqb o.kind 17) (asked.Request (request.InsertVehicle (lock_in o)))
-    (asked.Request (request.Replace (record { lock = lock_in o; broken = o.now; breaker = o.breaker })))))
+    (cond (eqb o.kind 16) (Ok (request.Insert (lock_in o)))
+    (cond (eqb o.kind 17) (Ok (request.InsertVehicle (lock_in o)))
+    (Ok (request.Replace (record { lock = lock_in o; broken = o.now; breaker = o.breaker })))))
     bad_asked
 
-unfoldable pub asked_renewal : Operation → Asked
+unfoldable pub asked_renewal : Operation → Result Request Told
 asked_renewal o =
     cond (leb o.given 1)
-    (asked.Request (request.Renew (record { id = id o.hi o.lo; expires = o.expires; now = o.now; metadata = o.metadata; given = eqb o.given 1 })))
+    (Ok (request.Renew (record { id = id o.hi o.lo; expires = o.expires; now = o.now; metadata = o.metadata; given = eqb o.given 1 })))
     bad_asked
 
-unfoldable pub asked_as : ℕ → Operation → Asked
+unfoldable pub asked_as : ℕ → Operation → Result Request Told
 asked_as k o =
     cond (eqb k 16) (asked_lock o)
     (cond (eqb k 17) (asked_lock o)
     (cond (eqb k 18) (asked_renewal o)
-    (cond (eqb k 19) (asked.Request (request.Delete (id o.hi o.lo)))
-    (cond (eqb k 20) (asked.Request (request.BeginExpiration (record { id = id o.hi o.lo; now = o.now })))
+    (cond (eqb k 19) (Ok (request.Delete (id o.hi o.lo)))
+    (cond (eqb k 20) (Ok (request.BeginExpiration (record { id = id o.hi o.lo; now = o.now })))
     (cond (eqb k 21) (asked_lock o)
-    (cond (eqb k 22) (asked.Request (request.Acknowledge (id o.hi o.lo)))
-    (cond (eqb k 23) (asked.Request (request.ExpireDefunct o.now))
-    (asked.Refused (told_of (paper 18 (0 ∷ [])))))))))))
+    (cond (eqb k 22) (Ok (request.Acknowledge (id o.hi o.lo)))
+    (cond (eqb k 23) (Ok (request.ExpireDefunct o.now))
+    (Err (told_of (paper 18 (0 ∷ [])))))))))))
 
-abbrev pub asked_of : Operation → Asked
+abbrev pub asked_of : Operation → Result Request Told
 asked_of o = asked_as o.kind o
 
-abbrev pub on_asked : {A : Type 0} → (Told → A) → (Request → A) → Asked → A
-on_asked refused go (asked.Refused t) = refused t
-on_asked refused go (asked.Request r) = go r
+abbrev pub on_asked : {A : Type 0} → (Told → A) → (Request → A) → Result Request Told → A
+on_asked refused go (Err t) = refused t
+on_asked refused go (Ok r) = go r
 
 -- ---- the record alone: "Refusals: 14, 29 ListTooLong (over 64 ids), 21, in this order."
 abbrev pub record_put : ℕ → List ℕ → List ℕ → Request → Kept
@@ -119,14 +117,12 @@ module _ (n m x f : List ℕ) where
       (with_record (step_put 0 st n m x) (cond (is_applied st.told.event) (splice f 0 bytes) f))
 
   -- 14 and 29 of the list, then the record that is due
-  abbrev pub needed_put : Spare → Request → List ℕ → Sent → Performed
-  needed_put sp r ws (sent.Done size) = own_put_lem (step_on sp (request_bytes sp.expected r ws) 0) (request_bytes sp.expected r ws)
-  needed_put sp r ws sent.BadList = quiet (still (told_of (sent_paper sent.BadList)) 1 0 0)
-  needed_put sp r ws sent.ListTooLong = quiet (still (told_of (sent_paper sent.ListTooLong)) 1 0 0)
-  needed_put sp r ws (sent.ShortOutput k) = quiet (still (told_of (sent_paper (sent.ShortOutput k))) 1 0 0)
+  abbrev pub needed_put : Spare → Request → List ℕ → Result ℕ Unsent → Performed
+  needed_put sp r ws (Ok size) = own_put_lem (step_on sp (request_bytes sp.expected r ws) 0) (request_bytes sp.expected r ws)
+  needed_put sp r ws (Err why) = quiet (still (told_of (sent_paper (Err why))) 1 0 0)
 
   -- 18 and 19 of the numbers before them
-  abbrev pub asked_put : Spare → List ℕ → Asked → Performed
+  abbrev pub asked_put : Spare → List ℕ → Result Request Told → Performed
   asked_put sp ws a = on_asked (λ t. quiet (still t 1 0 0)) (λ r. needed_put sp r ws (needed_on r ws)) a
 
 unfoldable pub perform_of : List ℕ → Operation → List ℕ → List ℕ → List ℕ → List ℕ → List ℕ → Performed

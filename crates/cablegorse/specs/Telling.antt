@@ -4,9 +4,11 @@ use Rattle.std.specs.Prelude.{cond, List, [], ◌∷◌, ◌++◌, ℕ, ltb, len
 use Rattle.lists.specs.Papers.{Paper, paper}
 use Rattle.locks.specs.declared.Response.{Response}
 use Rattle.locks.specs.declared.Response.TheVariants as response
+use Rattle.names.specs.declared.NameRefusal.{NameRefusal}
 use Rattle.names.specs.declared.Named.{Named}
 use Rattle.names.specs.Answers as names
-use Rattle.image.specs.declared.Reading.{Reading}
+use Rattle.std.specs.Prelude.{Result, Option, Some, None, ⊤}
+use Rattle.image.specs.declared.ImageRefusal.{ImageRefusal}
 use Rattle.image.specs.Image.{reading_paper}
 use Rattle.cablegorse.specs.declared.Told.{Told}
 
@@ -23,19 +25,19 @@ told_of p =
       v4 = get_or p.values 4 0;
     }
 
-unfoldable pub reading_told : Reading → Told
+unfoldable pub reading_told : Result ⊤ ImageRefusal → Told
 reading_told x = told_of (reading_paper x)
 
-unfoldable pub named_told : Named → Told
+unfoldable pub named_told : Result Named NameRefusal → Told
 named_told n = told_of (paper (names.paper_of n) (names.values_of n))
 
 -- "The response class of a refusal number"
-unfoldable pub class_number : Response → ℕ
-class_number response.Nothing = 0
-class_number response.BadRequest = 1
-class_number response.Conflict = 2
-class_number response.InternalServerError = 3
-class_number response.Forbidden = 4
+unfoldable pub class_number : Option Response → ℕ
+class_number None = 0
+class_number (Some response.BadRequest) = 1
+class_number (Some response.Conflict) = 2
+class_number (Some response.InternalServerError) = 3
+class_number (Some response.Forbidden) = 4
 
 -- ---- the answer, and a lent buffer as the call leaves it
 pub record Kept : Type 0 where

@@ -1,79 +1,57 @@
 // Arguments of a read: numbers that must be in their range, and records.
 // SPDX-License-Identifier: Apache-2.0
 ghost use Rattle.std.specs.Prelude.{◌≡◌};
-ghost use Rattle.cablegorse.specs.Questions.{scoped_of, lock_given, entry_given, tester_of};
+ghost use Rattle.image.specs.Image.{record_at};
+ghost use Rattle.image.specs.Steps.{place_of};
+ghost use Rattle.cablegorse.specs.Questions.{bad_told, scoped_of, scope_told, record_told, tester_told};
 
-use crate::{Told, papers};
+use crate::Told;
 use image::reader;
-use image::reader::{ActiveStep, DefunctStep};
+use image::reader::Kept;
 use lookups::TesterPresent;
 use records::bodies;
-use state::{ActiveLock, DefunctLock, ScopeKey};
-
-// The greatest number of one byte (ECU, group, scope kind), and the greatest subject.
-pub(crate) const NUMBERS: u64 = u8::MAX as u64;
-
-pub(crate) const SUBJECTS: u64 = u16::MAX as u64;
+use state::ScopeKey;
+use std::num::TryFromIntError;
 
 // A scope in one number: its kind times this, and its number.
-pub(crate) const BYTE: u64 = NUMBERS + 1;
+pub(crate) const BYTE: u64 = u8::MAX as u64 + 1;
 
-#[derive(Clone, Copy)]
-pub enum Scoped {
-    Bad,
-    At(ScopeKey),
-}
+// A number that its type can't hold.
+impl From<TryFromIntError> for Told {
+    ghost from_gives = { λ _ t. t ≡ bad_told };
 
-#[derive(Clone, Copy)]
-pub enum LockGiven {
-    Refused(Told),
-    Lock(ActiveLock),
-}
-
-#[derive(Clone, Copy)]
-pub enum EntryGiven {
-    Refused(Told),
-    Entry(DefunctLock),
-}
-
-pub(crate) fn scope_in(kind: u64, number: u64) -> Scoped
-    ensures { result ≡ scoped_of kind number }
-{
-    if (NUMBERS < kind) | (NUMBERS < number) {
-        return Scoped::Bad;
+    fn from(_why: TryFromIntError) -> Told {
+        Told::new(19, &[0])
     }
-    let k = kind as u8;
-    let n = number as u8;
+}
+
+pub(crate) fn scope_in(kind: u64, number: u64) -> Result<ScopeKey, Told>
+    ensures { result ≡ scope_told (scoped_of kind number) }
+{
+    let k = u8::try_from(kind)?;
+    let n = u8::try_from(number)?;
     if !bodies::scope_right(k, n) {
-        return Scoped::Bad;
+        return Err(Told::new(19, &[0]));
     }
-    Scoped::At(bodies::scope_of(k, n))
+    Ok(bodies::scope_of(k, n))
 }
 
-// The ACTIVE record at the start; what follows it is not read.
-pub(crate) fn lock_in(given: &[u8]) -> LockGiven
-    ensures { result ≡ lock_given given.now }
+// The record of this kind at the start; what follows it is not read.
+pub(crate) fn record_in<R: Kept>(given: &[u8]) -> Result<R, Told>
+    ensures { result ≡ record_told (record_at R.codec (place_of R.due_of) given.now 0) }
 {
-    match reader::active_from(given, 0) {
-        ActiveStep::Read(a, _) => LockGiven::Lock(a),
-        ActiveStep::Refused(why) => LockGiven::Refused(papers::of_reading(why)),
-    }
+    let (record, _) = reader::record_from::<R>(given, 0)?;
+    Ok(record)
 }
 
-pub(crate) fn entry_in(given: &[u8]) -> EntryGiven
-    ensures { result ≡ entry_given given.now }
+// 1 an ECU, 2 a group.
+pub(crate) fn tester_in(kind: u64, number: u64) -> Result<TesterPresent, Told>
+    ensures { result ≡ tester_told kind number }
 {
-    match reader::defunct_from(given, 0) {
-        DefunctStep::Read(d, _) => EntryGiven::Entry(d),
-        DefunctStep::Refused(why) => EntryGiven::Refused(papers::of_reading(why)),
+    let n = u8::try_from(number)?;
+    match kind {
+        1 => Ok(TesterPresent::Ecu(n)),
+        2 => Ok(TesterPresent::Functional(n)),
+        _ => Err(Told::new(19, &[0])),
     }
-}
-
-pub(crate) fn tester_in(kind: u64, number: u8) -> TesterPresent
-    ensures { result ≡ tester_of kind number }
-{
-    if kind == 1 {
-        return TesterPresent::Ecu(number);
-    }
-    TesterPresent::Functional(number)
 }

@@ -9,10 +9,9 @@ ghost use Rattle.cablegorse.specs.Changes.{changed, left};
 ghost use Rattle.cablegorse.specs.Code.{step_shown};
 ghost use Rattle.cablegorse.specs.Boards.{board_of_image, board_told, board_changed, followed_by, apply_board_of, delete_board_of};
 
-use crate::{Applied, Told, changes, papers};
+use crate::{Applied, Told, changes};
 use feed::events::Step;
-use image::{Writing, read};
-use rules::Verdict;
+use image::{WriteRefusal, read};
 use state::LockState;
 
 // BoardMismatch.
@@ -21,13 +20,16 @@ const MISMATCH: u32 = 28;
 // The outputs were written.
 const WRITTEN: u32 = 2;
 
-fn of_writing(w: Writing) -> Told
-    ensures { result ≡ told_of (writing_paper w) }
-{
-    match w {
-        Writing::Done(n) => papers::one(0, n as u64),
-        Writing::UnsoundState(rule) => papers::one(12, rule as u64),
-        Writing::ShortOutput(n) => papers::one(21, n as u64),
+impl From<Result<usize, WriteRefusal>> for Told {
+    ghost from_gives = { λ w t. t ≡ told_of (writing_paper w) };
+
+    #[tactic(auto, unfolding(image::specs::Image::writing_paper))]
+    fn from(w: Result<usize, WriteRefusal>) -> Told {
+        match w {
+            Ok(n) => Told::new(0, &[n as u64]),
+            Err(WriteRefusal::UnsoundState(rule)) => Told::new(12, &[rule as u64]),
+            Err(WriteRefusal::ShortOutput(n)) => Told::new(21, &[n as u64]),
+        }
     }
 }
 
@@ -36,24 +38,22 @@ pub fn cablegorse_board(image: &[u8], out: &mut [u8]) -> Told
     ensures { kept result out.new ≡ board_of_image image.now out.old }
 {
     let i = read::read_image(image);
-    let why = i.told;
-    let t = papers::of_reading(why);
-    if t.number != 0 {
-        return t;
+    if let Err(why) = i.told {
+        return Told::from(why);
     }
     let spare = i.spare;
     let state = spare.state;
-    of_writing(board::fresh(state, out))
+    Told::from(board::fresh(state, out))
 }
 
 // The board isn't the state's: 12 comes first.
 fn unmatched(state: LockState) -> Told
     ensures { result ≡ on_sound state (λ n. told_of (paper 12 (n ∷ []))) (told_of (paper 28 [])) }
 {
-    if let Verdict::Broken(rule) = rules::broken(state) {
-        return papers::one(12, rule as u64);
+    match rules::broken(state) {
+        Err(u) => Told::from(u),
+        Ok(()) => Told::new(MISMATCH, &[]),
     }
-    papers::none(MISMATCH)
 }
 
 // All four or none.
@@ -89,10 +89,8 @@ pub fn cablegorse_apply_board(
     ensures { board_changed (changed result next.new removed.new expired.new) board.new ≡ apply_board_of image.now board.old stream.now at next.old removed.old expired.old }
 {
     let i = read::read_records(image);
-    let why = i.told;
-    let t = papers::of_reading(why);
-    if t.number != 0 {
-        return changes::still(t, 0, 0, at as u64);
+    if let Err(why) = i.told {
+        return changes::still(Told::from(why), 0, 0, at as u64);
     }
     let spare = i.spare;
     let state = spare.state;
@@ -103,22 +101,21 @@ pub fn cablegorse_apply_board(
     put_followed(s, board, stream, at, next, removed, expired)
 }
 
-// An image and a board: the image's refusals, then 28.
+// An image and a board: the image's refusals, then 28; 0 where the board is the image's own. No Result: what docs/REQUESTS.md
+// names, `board_told`, is a Told.
 fn board_told(image: &[u8], board: &[u8]) -> Told
     ensures { result ≡ board_told image.now board.now }
 {
     let i = read::read_image(image);
-    let why = i.told;
-    let t = papers::of_reading(why);
-    if t.number != 0 {
-        return t;
+    if let Err(why) = i.told {
+        return Told::from(why);
     }
     let spare = i.spare;
     let state = spare.state;
     if board::matches(state, board) {
-        return papers::none(0);
+        return Told::new(0, &[]);
     }
-    papers::none(MISMATCH)
+    Told::new(MISMATCH, &[])
 }
 
 // A defunct entry deleted, with the image's board beside it. The image is read once more for the board: people delete

@@ -4,7 +4,6 @@ ghost use Rattle.std.specs.Prelude.{◌≡◌};
 ghost use Rattle.cablegorse.specs.Changes.{applied, still, changed, apply_of, left, drop_put, delete_of};
 ghost use Rattle.cablegorse.specs.Code.{step_shown};
 
-use crate::arguments::Scoped;
 use crate::{Applied, Told, arguments, papers, putting};
 use feed::events::Step;
 use ids::LockId;
@@ -48,7 +47,8 @@ pub(crate) fn still(t: Told, part: u32, sequence: u32, place: u64) -> Applied
     applied(t, part, sequence, place, 0, 0, 0)
 }
 
-// All three outputs or none. 12 is the image's refusal: the step is where its state is tested.
+// All three outputs or none. 12 is the image's refusal: the step is where its state is tested. The outputs stand apart, here
+// and in sending: C lends each by itself, and contracts speak of each one's bytes before and after.
 pub(crate) fn put_step(
     s: Step,
     at: usize,
@@ -60,7 +60,7 @@ pub(crate) fn put_step(
 {
     let told = s.told;
     let event = told.event;
-    let t = crate::events::of_event(event);
+    let t = Told::from(event);
     if feed::events::is_unsound(event) {
         return still(t, 0, 0, at as u64);
     }
@@ -69,25 +69,25 @@ pub(crate) fn put_step(
     }
     let spare = s.spare;
     let size = write::image_size(spare);
-    let gone = write::at_most(told.gone, LockState::ACTIVE);
-    let lapsed = write::at_most(told.lapsed, LockState::DEFUNCT);
+    let gone = told.gone.min(LockState::ACTIVE);
+    let lapsed = told.lapsed.min(LockState::DEFUNCT);
     if (next.len() < size)
         | (removed.len() < gone * layout::ACTIVE_RECORD)
         | (expired.len() < lapsed * layout::ID)
     {
-        let short = papers::three(
+        let short = Told::new(
             21,
-            size as u64,
-            (gone * layout::ACTIVE_RECORD) as u64,
-            (lapsed * layout::ID) as u64,
+            &[
+                size as u64,
+                (gone * layout::ACTIVE_RECORD) as u64,
+                (lapsed * layout::ID) as u64,
+            ],
         );
         return still(short, 3, told.sequence, at as u64);
     }
     write::store_image(spare, next);
-    let locks = told.removed;
-    write::store_actives(removed, locks, told.gone);
-    let ids = told.ids;
-    putting::store_expired(expired, ids, told.lapsed);
+    write::store_actives(removed, &told.removed[..gone]);
+    putting::store_ids(expired, &told.ids[..lapsed]);
     applied(
         t,
         2,
@@ -111,10 +111,8 @@ pub fn cablegorse_apply(
     ensures { changed result next.new removed.new expired.new ≡ apply_of image.now stream.now at next.old removed.old expired.old }
 {
     let i = read::read_records(image);
-    let why = i.told;
-    let t = papers::of_reading(why);
-    if t.number != 0 {
-        return still(t, 0, 0, at as u64);
+    if let Err(why) = i.told {
+        return still(Told::from(why), 0, 0, at as u64);
     }
     let spare = i.spare;
     let s = feed::step(spare, stream, at);
@@ -126,7 +124,7 @@ fn put_dropped(d: Dropped, expected: u32, next: &mut [u8]) -> Applied
     ensures { left result next.new ≡ drop_put expected d next.old }
 {
     let told = d.told;
-    let t = papers::of_dropping(told);
+    let t = Told::from(told);
     if !papers::is_gone(told) {
         return still(t, 2, 0, 0);
     }
@@ -134,7 +132,7 @@ fn put_dropped(d: Dropped, expected: u32, next: &mut [u8]) -> Applied
     let spare = Spare { state, expected };
     let size = write::image_size(spare);
     if next.len() < size {
-        let short = papers::three(21, size as u64, 0, 0);
+        let short = Told::new(21, &[size as u64, 0, 0]);
         return still(short, 3, 0, 0);
     }
     write::store_image(spare, next);
@@ -154,16 +152,13 @@ pub fn cablegorse_delete_defunct(
     ensures { left result next.new ≡ delete_of image.now hi lo kind number subject next.old }
 {
     let i = read::read_image(image);
-    let why = i.told;
-    let t = papers::of_reading(why);
-    if t.number != 0 {
-        return still(t, 0, 0, 0);
+    if let Err(why) = i.told {
+        return still(Told::from(why), 0, 0, 0);
     }
     let spare = i.spare;
-    let k = arguments::scope_in(kind as u64, number as u64);
-    match k {
-        Scoped::Bad => still(papers::one(19, 0), 1, 0, 0),
-        Scoped::At(scope) => {
+    match arguments::scope_in(kind as u64, number as u64) {
+        Err(t) => still(t, 1, 0, 0),
+        Ok(scope) => {
             let state = spare.state;
             let d = locks::delete_defunct(state, LockId { hi, lo }, scope, subject);
             put_dropped(d, spare.expected, next)

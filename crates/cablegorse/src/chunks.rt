@@ -3,9 +3,10 @@
 ghost use Rattle.std.specs.Prelude.{◌≡◌};
 ghost use Rattle.cablegorse.specs.Chunks.{followed, stop_told, stop_part, chunked, run_put, follow_of};
 
-use crate::{Followed, Told, papers};
+use crate::{Followed, Told};
+use feed::events::FeedRefusal;
 use feed::following;
-use feed::following::{Run, Stop};
+use feed::following::Run;
 use image::{read, write};
 
 fn followed(
@@ -36,21 +37,23 @@ fn followed(
     }
 }
 
-fn stop_told(stop: Stop) -> Told
+#[tactic(auto, unfolding(crate::specs::Chunks::stop_told))]
+fn stop_told(stop: Result<(), FeedRefusal>) -> Told
     ensures { result ≡ stop_told stop }
 {
     match stop {
-        Stop::End => papers::none(0),
-        Stop::At(event) => crate::events::of_event(event),
+        Ok(()) => Told::new(0, &[]),
+        Err(why) => Told::from(Err(why)),
     }
 }
 
-fn stop_part(stop: Stop) -> u32
+#[tactic(auto, unfolding(crate::specs::Chunks::stop_part))]
+fn stop_part(stop: Result<(), FeedRefusal>) -> u32
     ensures { result ≡ stop_part stop }
 {
     match stop {
-        Stop::End => 2,
-        Stop::At(_) => 1,
+        Ok(()) => 2,
+        Err(_) => 1,
     }
 }
 
@@ -61,7 +64,7 @@ fn put_run(run: Run, next: &mut [u8]) -> Followed
     let spare = run.spare;
     let size = write::image_size(spare);
     if next.len() < size {
-        return followed(papers::one(21, size as u64), 3, 0, 0, 0, 0, 0);
+        return followed(Told::new(21, &[size as u64]), 3, 0, 0, 0, 0, 0);
     }
     write::store_image(spare, next);
     let stop = run.stop;
@@ -80,10 +83,8 @@ pub fn cablegorse_follow(image: &[u8], chunk: &[u8], next: &mut [u8]) -> Followe
     ensures { chunked result next.new ≡ follow_of image.now chunk.now next.old }
 {
     let i = read::read_image(image);
-    let why = i.told;
-    let t = papers::of_reading(why);
-    if t.number != 0 {
-        return followed(t, 0, 0, 0, 0, 0, 0);
+    if let Err(why) = i.told {
+        return followed(Told::from(why), 0, 0, 0, 0, 0, 0);
     }
     let spare = i.spare;
     let run = following::follow(spare, chunk);

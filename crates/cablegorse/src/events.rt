@@ -1,6 +1,6 @@
 // What a step over the feed tells, as number and values. The numbers are feed's.
 // SPDX-License-Identifier: Apache-2.0
-ghost use Rattle.std.specs.Prelude.{◌≡◌};
+ghost use Rattle.std.specs.Prelude.{◌≡◌, Err};
 ghost use Rattle.lists.specs.Papers.{paper};
 ghost use Rattle.lookups.specs.Papers.{id_values};
 ghost use Rattle.operations.specs.Answers.{spot_values, paper_of, renewal_paper, deletion_paper, expiration_paper, acknowledgement_paper, expiry_paper};
@@ -8,106 +8,112 @@ ghost use Rattle.calls.specs.Calls.{outcome_paper};
 ghost use Rattle.feed.specs.Feed.{event_paper};
 ghost use Rattle.cablegorse.specs.Telling.{told_of};
 
-use crate::{Told, papers};
+use crate::Told;
 use calls::Outcome;
-use coverage::Spot;
-use feed::events::Event;
+use feed::events::FeedRefusal;
 use feed::numbers;
 use ids::LockId;
-use operations::answers::{Acknowledgement, Answer, DefunctExpiry, Deletion, Expiration, Renewal};
+use operations::answers::{DeletionRefusal, Expiration, Refusal, RenewalRefusal, StateRefusal};
 
 // ---- the values of each kind of answer, beside the number that is given
-fn of_conflict(n: u32, id: LockId, at: Spot) -> Told
+fn of_conflict(n: u32, id: LockId, at: Option<u8>) -> Told
     ensures { result ≡ told_of (paper n (id_values id (spot_values at))) }
 {
     match at {
-        Spot::NoEcu => papers::four(n, id.hi, id.lo, 0, 0),
-        Spot::Ecu(e) => papers::four(n, id.hi, id.lo, 1, e as u64),
+        None => Told::new(n, &[id.hi, id.lo, 0, 0]),
+        Some(e) => Told::new(n, &[id.hi, id.lo, 1, e as u64]),
     }
 }
 
-fn of_answer(n: u32, a: Answer) -> Told
+#[tactic(auto, unfolding(operations::specs::Answers::paper_of))]
+fn of_answer(n: u32, a: Result<(), Refusal>) -> Told
     ensures { result ≡ told_of (paper n (paper_of a).values) }
 {
     match a {
-        Answer::Done => papers::none(n),
-        Answer::DuplicateId(i) => papers::two(n, i.hi, i.lo),
-        Answer::DuplicateScope => papers::none(n),
-        Answer::ActiveLockNotFound(i) => papers::two(n, i.hi, i.lo),
-        Answer::ParentNotFound(i) => papers::two(n, i.hi, i.lo),
-        Answer::ParentNotVehicle(i) => papers::two(n, i.hi, i.lo),
-        Answer::ReplacementScopeConflict => papers::none(n),
-        Answer::CoverageConflict(i, at) => of_conflict(n, i, at),
-        Answer::RevisionOverflow => papers::none(n),
-        Answer::NotRootVehicle => papers::one(n, 1),
-        Answer::BadChild(i) => papers::three(n, 2, i.hi, i.lo),
-        Answer::OtherOwner(i, j) => papers::five(n, 3, i.hi, i.lo, j.hi, j.lo),
-        Answer::NotCovered(i, j) => papers::five(n, 4, i.hi, i.lo, j.hi, j.lo),
-        Answer::Invariant => papers::one(n, 0),
-        Answer::UnsoundState(x) => papers::one(n, x as u64),
-        Answer::NoRoom => papers::none(n),
-        Answer::BadList => papers::none(n),
+        Ok(()) => Told::new(n, &[]),
+        Err(Refusal::DuplicateId(i)) => Told::new(n, &[i.hi, i.lo]),
+        Err(Refusal::DuplicateScope) => Told::new(n, &[]),
+        Err(Refusal::ActiveLockNotFound(i)) => Told::new(n, &[i.hi, i.lo]),
+        Err(Refusal::ParentNotFound(i)) => Told::new(n, &[i.hi, i.lo]),
+        Err(Refusal::ParentNotVehicle(i)) => Told::new(n, &[i.hi, i.lo]),
+        Err(Refusal::ReplacementScopeConflict) => Told::new(n, &[]),
+        Err(Refusal::CoverageConflict(i, at)) => of_conflict(n, i, at),
+        Err(Refusal::RevisionOverflow) => Told::new(n, &[]),
+        Err(Refusal::NotRootVehicle) => Told::new(n, &[1]),
+        Err(Refusal::BadChild(i)) => Told::new(n, &[2, i.hi, i.lo]),
+        Err(Refusal::OtherOwner(i, j)) => Told::new(n, &[3, i.hi, i.lo, j.hi, j.lo]),
+        Err(Refusal::NotCovered(i, j)) => Told::new(n, &[4, i.hi, i.lo, j.hi, j.lo]),
+        Err(Refusal::Invariant) => Told::new(n, &[0]),
+        Err(Refusal::UnsoundState(x)) => Told::new(n, &[x as u64]),
+        Err(Refusal::NoRoom) => Told::new(n, &[]),
+        Err(Refusal::BadList) => Told::new(n, &[]),
     }
 }
 
-fn of_renewal(n: u32, a: Renewal) -> Told
+#[tactic(auto, unfolding(operations::specs::Answers::renewal_paper))]
+fn of_renewal(n: u32, a: Result<(), RenewalRefusal>) -> Told
     ensures { result ≡ told_of (paper n (renewal_paper a).values) }
 {
     match a {
-        Renewal::Done => papers::none(n),
-        Renewal::ActiveLockNotFound(i) => papers::two(n, i.hi, i.lo),
-        Renewal::RevisionOverflow => papers::none(n),
-        Renewal::LockExpired => papers::none(n),
-        Renewal::RenewalNotExtension => papers::none(n),
-        Renewal::UnsoundState(x) => papers::one(n, x as u64),
+        Ok(()) => Told::new(n, &[]),
+        Err(RenewalRefusal::ActiveLockNotFound(i)) => Told::new(n, &[i.hi, i.lo]),
+        Err(RenewalRefusal::RevisionOverflow) => Told::new(n, &[]),
+        Err(RenewalRefusal::LockExpired) => Told::new(n, &[]),
+        Err(RenewalRefusal::RenewalNotExtension) => Told::new(n, &[]),
+        Err(RenewalRefusal::UnsoundState(x)) => Told::new(n, &[x as u64]),
     }
 }
 
-fn of_deletion(n: u32, a: Deletion) -> Told
+#[tactic(auto, unfolding(operations::specs::Answers::deletion_paper))]
+fn of_deletion(n: u32, a: Result<(), DeletionRefusal>) -> Told
     ensures { result ≡ told_of (paper n (deletion_paper a).values) }
 {
     match a {
-        Deletion::Done => papers::none(n),
-        Deletion::ActiveLockNotFound(i) => papers::two(n, i.hi, i.lo),
-        Deletion::RevisionOverflow => papers::none(n),
-        Deletion::UnsoundState(x) => papers::one(n, x as u64),
+        Ok(()) => Told::new(n, &[]),
+        Err(DeletionRefusal::ActiveLockNotFound(i)) => Told::new(n, &[i.hi, i.lo]),
+        Err(DeletionRefusal::RevisionOverflow) => Told::new(n, &[]),
+        Err(DeletionRefusal::UnsoundState(x)) => Told::new(n, &[x as u64]),
     }
 }
 
-fn of_expiration(n: u32, a: Expiration) -> Told
+#[tactic(auto, unfolding(operations::specs::Answers::expiration_paper))]
+fn of_expiration(n: u32, a: Result<Expiration, StateRefusal>) -> Told
     ensures { result ≡ told_of (paper n (expiration_paper a).values) }
 {
     match a {
-        Expiration::Done => papers::one(n, 0),
-        Expiration::Stale => papers::one(n, 1),
-        Expiration::NotDue(time) => papers::two(n, 2, time),
-        Expiration::RevisionOverflow => papers::none(n),
-        Expiration::UnsoundState(x) => papers::one(n, x as u64),
+        Ok(Expiration::Done) => Told::new(n, &[0]),
+        Ok(Expiration::Stale) => Told::new(n, &[1]),
+        Ok(Expiration::NotDue(time)) => Told::new(n, &[2, time]),
+        Err(StateRefusal::RevisionOverflow) => Told::new(n, &[]),
+        Err(StateRefusal::UnsoundState(x)) => Told::new(n, &[x as u64]),
     }
 }
 
-fn of_acknowledgement(n: u32, a: Acknowledgement) -> Told
+#[tactic(auto, unfolding(operations::specs::Answers::acknowledgement_paper))]
+fn of_acknowledgement(n: u32, a: Result<bool, StateRefusal>) -> Told
     ensures { result ≡ told_of (paper n (acknowledgement_paper a).values) }
 {
     match a {
-        Acknowledgement::Done => papers::one(n, 1),
-        Acknowledgement::Absent => papers::one(n, 0),
-        Acknowledgement::RevisionOverflow => papers::none(n),
-        Acknowledgement::UnsoundState(x) => papers::one(n, x as u64),
+        Ok(true) => Told::new(n, &[1]),
+        Ok(false) => Told::new(n, &[0]),
+        Err(StateRefusal::RevisionOverflow) => Told::new(n, &[]),
+        Err(StateRefusal::UnsoundState(x)) => Told::new(n, &[x as u64]),
     }
 }
 
-fn of_expiry(n: u32, a: DefunctExpiry) -> Told
+#[tactic(auto, unfolding(operations::specs::Answers::expiry_paper))]
+fn of_expiry(n: u32, a: Result<(), StateRefusal>) -> Told
     ensures { result ≡ told_of (paper n (expiry_paper a).values) }
 {
     match a {
-        DefunctExpiry::Done => papers::none(n),
-        DefunctExpiry::RevisionOverflow => papers::none(n),
-        DefunctExpiry::UnsoundState(x) => papers::one(n, x as u64),
+        Ok(()) => Told::new(n, &[]),
+        Err(StateRefusal::RevisionOverflow) => Told::new(n, &[]),
+        Err(StateRefusal::UnsoundState(x)) => Told::new(n, &[x as u64]),
     }
 }
 
 // ---- what the operation answered
+#[tactic(auto, unfolding(calls::specs::Calls::outcome_paper))]
 fn of_outcome(n: u32, outcome: Outcome) -> Told
     ensures { result ≡ told_of (paper n (outcome_paper outcome).values) }
 {
@@ -124,17 +130,28 @@ fn of_outcome(n: u32, outcome: Outcome) -> Told
 }
 
 // ---- the event
-pub(crate) fn of_event(e: Event) -> Told
-    ensures { result ≡ told_of (event_paper e) }
+#[tactic(auto, unfolding(feed::specs::Feed::event_paper))]
+fn of_refusal(n: u32, why: FeedRefusal) -> Told
+    ensures { result ≡ told_of (paper n (event_paper (Err why)).values) }
 {
-    let n = numbers::number(e) as u32;
-    match e {
-        Event::UnsoundState(x) => papers::one(n, x as u64),
-        Event::Torn(x) => papers::one(n, x as u64),
-        Event::BadKind(x) => papers::one(n, x as u64),
-        Event::BadField(x) => papers::one(n, x as u64),
-        Event::Repeat(x) => papers::one(n, x as u64),
-        Event::Ahead(x) => papers::one(n, x as u64),
-        Event::Applied(outcome) => of_outcome(n, outcome),
+    match why {
+        FeedRefusal::UnsoundState(x) => Told::new(n, &[x as u64]),
+        FeedRefusal::Torn(x) => Told::new(n, &[x as u64]),
+        FeedRefusal::BadKind(x) => Told::new(n, &[x as u64]),
+        FeedRefusal::BadField(x) => Told::new(n, &[x as u64]),
+        FeedRefusal::Repeat(x) => Told::new(n, &[x as u64]),
+        FeedRefusal::Ahead(x) => Told::new(n, &[x as u64]),
+    }
+}
+
+impl From<Result<Outcome, FeedRefusal>> for Told {
+    ghost from_gives = { λ e t. t ≡ told_of (event_paper e) };
+
+    fn from(e: Result<Outcome, FeedRefusal>) -> Told {
+        let n = numbers::number(e) as u32;
+        match e {
+            Err(why) => of_refusal(n, why),
+            Ok(outcome) => of_outcome(n, outcome),
+        }
     }
 }

@@ -35,7 +35,7 @@ pub struct Told {
 
 // As Told, and: part 0 the image was refused, 1 the record or an argument was, 2 applied, 3 an output is too short; the
 // record's sequence; where the next record starts; the bytes of the next image; how many locks were removed and how many
-// entries expired.
+// entries expired. Told's fields stand here once more, as in Followed, and no Told: C has this layout (include/cablegorse.h).
 #[repr(C)]
 #[derive(Clone, Copy)]
 pub struct Applied {
@@ -106,6 +106,7 @@ pub struct Operation {
 }
 
 // The response class of a refusal number: 0 none, 1 BadRequest, 2 Conflict, 3 InternalServerError, 4 Forbidden.
+#[tactic(auto, unfolding(crate::specs::Boundary::class_of))]
 pub fn cablegorse_response_class(number: u64) -> u32
     ensures { result ≡ class_of number }
 {
@@ -117,19 +118,19 @@ pub fn cablegorse_test(image: &[u8]) -> Told
     ensures { result ≡ test_of image.now }
 {
     let i = read::read_image(image);
-    let why = i.told;
-    let t = papers::of_reading(why);
-    if t.number != 0 {
-        return t;
+    if let Err(why) = i.told {
+        return Told::from(why);
     }
     let spare = i.spare;
     let state = spare.state;
-    papers::four(
+    Told::new(
         0,
-        state.revision,
-        spare.expected as u64,
-        state.actives as u64,
-        state.defuncts as u64,
+        &[
+            state.revision,
+            spare.expected as u64,
+            state.actives as u64,
+            state.defuncts as u64,
+        ],
     )
 }
 
@@ -138,13 +139,10 @@ pub fn cablegorse_prepare_runtime_update(image: &[u8], generation: u64) -> Told
     ensures { result ≡ prepare_of image.now generation }
 {
     let i = read::read_image(image);
-    let why = i.told;
-    let t = papers::of_reading(why);
-    if t.number != 0 {
-        return t;
+    if let Err(why) = i.told {
+        return Told::from(why);
     }
     let spare = i.spare;
     let state = spare.state;
-    let u = locks::prepare_runtime_update(state, generation);
-    papers::of_update(u)
+    Told::from(locks::prepare_runtime_update(state, generation))
 }

@@ -1,27 +1,20 @@
 // The primary at the boundary: an operation as numbers, the record that carries it to a spare, and both in one call.
 // SPDX-License-Identifier: Apache-2.0
-ghost use Rattle.std.specs.Prelude.{◌≡◌};
+ghost use Rattle.std.specs.Prelude.{◌≡◌, Ok, Err};
 ghost use Rattle.records.specs.Sending.{needed_on, sent_paper};
 ghost use Rattle.cablegorse.specs.Telling.{told_of, kept};
 ghost use Rattle.cablegorse.specs.Sending.{bad_asked, lock_right, lock_in, asked_lock, asked_renewal, asked_of, write_of, performed, perform_of};
 ghost use Rattle.cablegorse.specs.Code.{sizes_in, refused_told, own_shown, own_of, request_shown};
 
-use crate::{Applied, Operation, Told, changes, copying, papers};
+use crate::{Applied, Operation, Told, changes, copying};
 use coverage::LockCoverage;
 use feed::events::Step;
 use ids::LockId;
 use image::{Spare, read, write};
 use records::requests::{ExpirationRequest, RenewRequest, ReplaceRequest, Request};
-use records::sending::Sent;
+use records::sending::Unsent;
 use records::{bodies, kinds, layout, sending};
-use rules::Verdict;
 use state::{ActiveLock, Lock, LockState};
-
-#[derive(Clone, Copy)]
-pub enum Asked {
-    Refused(Told),
-    Request(Request),
-}
 
 // A replacement with as many ids as a record holds.
 const LONGEST: usize = layout::FRAME + layout::ROOTS + (kinds::UNITS as usize) * layout::ID;
@@ -34,14 +27,16 @@ pub struct Sizes {
     pub ids: usize,
 }
 
-fn of_sent(told: Sent) -> Told
-    ensures { result ≡ told_of (sent_paper told) }
-{
-    match told {
-        Sent::Done(n) => papers::one(0, n as u64),
-        Sent::BadList => papers::none(14),
-        Sent::ListTooLong => papers::none(29),
-        Sent::ShortOutput(n) => papers::one(21, n as u64),
+impl From<Unsent> for Told {
+    ghost from_gives = { λ why t. t ≡ told_of (sent_paper (Err why)) };
+
+    #[tactic(auto, unfolding(records::specs::Sending::sent_paper))]
+    fn from(why: Unsent) -> Told {
+        match why {
+            Unsent::BadList => Told::new(14, &[]),
+            Unsent::ListTooLong => Told::new(29, &[]),
+            Unsent::ShortOutput(n) => Told::new(21, &[n as u64]),
+        }
     }
 }
 
@@ -86,14 +81,14 @@ fn lock_in(asked: Operation) -> ActiveLock
 }
 
 // A number that the operation's field can't have.
-fn bad() -> Asked
+fn bad() -> Result<Request, Told>
     ensures { result ≡ bad_asked }
 {
-    Asked::Refused(papers::one(19, 0))
+    Err(Told::new(19, &[0]))
 }
 
 // The three that bring a lock.
-fn ask_lock(asked: Operation) -> Asked
+fn ask_lock(asked: Operation) -> Result<Request, Told>
     ensures { result ≡ asked_lock asked }
 {
     if !lock_right(asked) {
@@ -101,20 +96,20 @@ fn ask_lock(asked: Operation) -> Asked
     }
     let lock = lock_in(asked);
     if asked.kind == kinds::INSERT {
-        return Asked::Request(Request::Insert(lock));
+        return Ok(Request::Insert(lock));
     }
     if asked.kind == kinds::INSERT_VEHICLE {
-        return Asked::Request(Request::InsertVehicle(lock));
+        return Ok(Request::InsertVehicle(lock));
     }
     let r = ReplaceRequest {
         lock,
         broken: asked.now,
         breaker: asked.breaker,
     };
-    Asked::Request(Request::Replace(r))
+    Ok(Request::Replace(r))
 }
 
-fn ask_renewal(asked: Operation) -> Asked
+fn ask_renewal(asked: Operation) -> Result<Request, Told>
     ensures { result ≡ asked_renewal asked }
 {
     if 1 < asked.given {
@@ -130,10 +125,10 @@ fn ask_renewal(asked: Operation) -> Asked
         metadata: asked.metadata,
         given: asked.given == 1,
     };
-    Asked::Request(Request::Renew(r))
+    Ok(Request::Renew(r))
 }
 
-fn request_in(asked: Operation) -> Asked
+fn request_in(asked: Operation) -> Result<Request, Told>
     ensures { result ≡ asked_of asked }
 {
     let id = LockId {
@@ -145,15 +140,15 @@ fn request_in(asked: Operation) -> Asked
         kinds::INSERT => ask_lock(asked),
         kinds::INSERT_VEHICLE => ask_lock(asked),
         kinds::RENEW => ask_renewal(asked),
-        kinds::DELETE => Asked::Request(Request::Delete(id)),
+        kinds::DELETE => Ok(Request::Delete(id)),
         kinds::BEGIN_EXPIRATION => {
             let e = ExpirationRequest { id, now: asked.now };
-            Asked::Request(Request::BeginExpiration(e))
+            Ok(Request::BeginExpiration(e))
         }
         kinds::REPLACE => ask_lock(asked),
-        kinds::ACKNOWLEDGE => Asked::Request(Request::Acknowledge(id)),
-        kinds::EXPIRE_DEFUNCT => Asked::Request(Request::ExpireDefunct(asked.now)),
-        _ => Asked::Refused(papers::one(18, 0)),
+        kinds::ACKNOWLEDGE => Ok(Request::Acknowledge(id)),
+        kinds::EXPIRE_DEFUNCT => Ok(Request::ExpireDefunct(asked.now)),
+        _ => Err(Told::new(18, &[0])),
     }
 }
 
@@ -166,10 +161,13 @@ pub fn cablegorse_write_record(
 ) -> Told
     ensures { kept result out.new ≡ write_of sequence asked list.now out.old }
 {
-    let g = request_in(asked);
-    match g {
-        Asked::Refused(t) => t,
-        Asked::Request(request) => of_sent(sending::put_request(sequence, request, list, out)),
+    let request = match request_in(asked) {
+        Ok(request) => request,
+        Err(t) => return t,
+    };
+    match sending::put_request(sequence, request, list, out) {
+        Ok(n) => Told::new(0, &[n as u64]),
+        Err(why) => Told::from(why),
     }
 }
 
@@ -178,10 +176,10 @@ pub fn cablegorse_write_record(
 fn refused(state: LockState, t: Told) -> Applied
     ensures { result ≡ refused_told state t }
 {
-    if let Verdict::Broken(rule) = rules::broken(state) {
-        return changes::still(papers::one(12, rule as u64), 0, 0, 0);
+    match rules::broken(state) {
+        Err(u) => changes::still(Told::from(u), 0, 0, 0),
+        Ok(()) => changes::still(t, 1, 0, 0),
     }
-    changes::still(t, 1, 0, 0)
 }
 
 fn sizes_in(s: Step) -> Sizes
@@ -191,8 +189,8 @@ fn sizes_in(s: Step) -> Sizes
     let told = s.told;
     Sizes {
         image: write::image_size(spare),
-        locks: write::at_most(told.gone, LockState::ACTIVE) * layout::ACTIVE_RECORD,
-        ids: write::at_most(told.lapsed, LockState::DEFUNCT) * layout::ID,
+        locks: told.gone.min(LockState::ACTIVE) * layout::ACTIVE_RECORD,
+        ids: told.lapsed.min(LockState::DEFUNCT) * layout::ID,
     }
 }
 
@@ -219,12 +217,9 @@ fn put_own(
         | (expired.len() < z.ids)
         | (sent.len() < size)
     {
-        let short = papers::four(
+        let short = Told::new(
             21,
-            z.image as u64,
-            z.locks as u64,
-            z.ids as u64,
-            size as u64,
+            &[z.image as u64, z.locks as u64, z.ids as u64, size as u64],
         );
         return changes::still(short, 3, told.sequence, 0);
     }
@@ -244,11 +239,11 @@ fn own(
     expired: &mut [u8],
     sent: &mut [u8],
 ) -> Applied
-    requires { needed_on request list.now ≡ Sent.Done size }
+    requires { needed_on request list.now ≡ Ok size }
     ensures { performed result next.new removed.new expired.new sent.new ≡ own_of spare request list.now next.old removed.old expired.old sent.old }
 {
     let mut due = [0u8; LONGEST];
-    sending::put_request(spare.expected, request, list, &mut due);
+    let _ = sending::put_request(spare.expected, request, list, &mut due);
     let s = feed::step(spare, &due[0..size], 0);
     put_own(s, &due[0..size], next, removed, expired, sent)
 }
@@ -266,10 +261,8 @@ fn ask(
 {
     let state = spare.state;
     match sending::needed(request, list) {
-        Sent::Done(size) => own(spare, request, list, size, next, removed, expired, sent),
-        Sent::BadList => refused(state, of_sent(Sent::BadList)),
-        Sent::ListTooLong => refused(state, of_sent(Sent::ListTooLong)),
-        Sent::ShortOutput(n) => refused(state, of_sent(Sent::ShortOutput(n))),
+        Ok(size) => own(spare, request, list, size, next, removed, expired, sent),
+        Err(why) => refused(state, Told::from(why)),
     }
 }
 
@@ -286,18 +279,15 @@ pub fn cablegorse_perform(
     ensures { performed result next.new removed.new expired.new sent.new ≡ perform_of image.now asked list.now next.old removed.old expired.old sent.old }
 {
     let i = read::read_records(image);
-    let why = i.told;
-    let t = papers::of_reading(why);
-    if t.number != 0 {
-        return changes::still(t, 0, 0, 0);
+    if let Err(why) = i.told {
+        return changes::still(Told::from(why), 0, 0, 0);
     }
     let spare = i.spare;
-    let g = request_in(asked);
-    match g {
-        Asked::Refused(r) => {
+    match request_in(asked) {
+        Err(r) => {
             let state = spare.state;
             refused(state, r)
         }
-        Asked::Request(request) => ask(spare, request, list, next, removed, expired, sent),
+        Ok(request) => ask(spare, request, list, next, removed, expired, sent),
     }
 }

@@ -6,14 +6,9 @@ use Rattle.state.specs.declared.ActiveLock.{ActiveLock}
 use Rattle.state.specs.declared.LockState.{LockState}
 use Rattle.state.specs.Locks.{blank_active}
 use Rattle.lists.specs.Papers.{Paper}
-use Rattle.operations.specs.declared.answers.Answer.{Answer}
-use Rattle.operations.specs.declared.answers.Inserted.{Inserted}
-use Rattle.operations.specs.declared.answers.Renewed.{Renewed}
-use Rattle.operations.specs.declared.answers.Deleted.{Deleted}
-use Rattle.operations.specs.declared.answers.Expired.{Expired}
-use Rattle.operations.specs.declared.answers.Replaced.{Replaced}
-use Rattle.operations.specs.declared.answers.Acknowledged.{Acknowledged}
-use Rattle.operations.specs.declared.answers.DefunctsExpired.{DefunctsExpired}
+use Rattle.std.specs.Prelude.{Result, ⊤}
+use Rattle.operations.specs.declared.answers.Refusal.{Refusal}
+use Rattle.operations.specs.Answers.{Inserted, Renewed, Deleted, Expired, Replaced, Acknowledged, DefunctsExpired}
 use Rattle.operations.specs.Answers.{paper_of, renewal_paper, deletion_paper, expiration_paper, acknowledgement_paper, expiry_paper}
 use Rattle.operations.specs.Insert.{insert_active_on}
 use Rattle.operations.specs.Vehicle.{insert_vehicle_on}
@@ -37,7 +32,7 @@ removing o gone removed s =
 abbrev pub plain : Outcome → LockState → Performed
 plain o s = removing o 0 (in_places 64 blank_active []) s
 
-abbrev pub by_insert : (Answer → Outcome) → Inserted → Performed
+abbrev pub by_insert : (Result ⊤ Refusal → Outcome) → Inserted → Performed
 by_insert o r = plain (o r.told) r.state
 
 abbrev pub by_renew : Renewed → Performed

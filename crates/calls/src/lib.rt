@@ -13,22 +13,22 @@ ghost use Rattle.calls.specs.declared.Outcome.TheVariants as O;
 ghost use Rattle.calls.specs.Calls.{removing, plain, by_insert, by_renew, by_delete, by_expiration, by_replace, by_acknowledge, by_expiry, perform_on, outcome_paper};
 
 use ids::LockId;
-use operations::answers::{Acknowledgement, Answer, DefunctExpiry, Deletion, Expiration, Renewal};
+use operations::answers::{DeletionRefusal, Expiration, Refusal, RenewalRefusal, StateRefusal};
 use operations::{acknowledge, delete, insert, insert_vehicle, numbers, renew, replace};
 use records::requests::{ExpirationRequest, RenewRequest, ReplaceRequest, Request};
 use state::{ActiveLock, LockState};
 
 // What the operation answered.
-#[derive(Clone, Copy)]
+#[derive(Clone, Copy, PartialEq, Eq)]
 pub enum Outcome {
-    Inserted(Answer),
-    VehicleInserted(Answer),
-    Renewed(Renewal),
-    Deleted(Deletion),
-    ExpirationBegun(Expiration),
-    Replaced(Answer),
-    Acknowledged(Acknowledgement),
-    DefunctsExpired(DefunctExpiry),
+    Inserted(Result<(), Refusal>),
+    VehicleInserted(Result<(), Refusal>),
+    Renewed(Result<(), RenewalRefusal>),
+    Deleted(Result<(), DeletionRefusal>),
+    ExpirationBegun(Result<Expiration, StateRefusal>),
+    Replaced(Result<(), Refusal>),
+    Acknowledged(Result<bool, StateRefusal>),
+    DefunctsExpired(Result<(), StateRefusal>),
 }
 
 // The removed locks stand in the first gone places, the ids of the defunct entries that expired in the first lapsed; blanks
@@ -74,101 +74,95 @@ fn by_insert(state: LockState, lock: ActiveLock) -> Performed
     ensures { result ≡ by_insert O.Inserted (insert_active_on state lock) }
 {
     let done = insert::insert_active(state, lock);
-    let told = done.told;
-    let left = done.state;
-    plain(Outcome::Inserted(told), left)
+    plain(Outcome::Inserted(done.told), done.state)
 }
 
 fn by_vehicle(state: LockState, lock: ActiveLock, list: &[u64]) -> Performed
     ensures { result ≡ by_insert O.VehicleInserted (insert_vehicle_on state lock list.now) }
 {
     let done = insert_vehicle::insert_vehicle(state, lock, list);
-    let told = done.told;
-    let left = done.state;
-    plain(Outcome::VehicleInserted(told), left)
+    plain(Outcome::VehicleInserted(done.told), done.state)
 }
 
 fn by_renew(state: LockState, asked: RenewRequest) -> Performed
     ensures { result ≡ by_renew (renew_on state asked.id asked.expires asked.now asked.given asked.metadata) }
 {
-    let id = asked.id;
     let done = renew::renew(
         state,
-        id,
+        asked.id,
         asked.expires,
         asked.now,
         asked.given,
         asked.metadata,
     );
-    let told = done.told;
-    let left = done.state;
-    plain(Outcome::Renewed(told), left)
+    plain(Outcome::Renewed(done.told), done.state)
 }
 
 fn by_delete(state: LockState, id: LockId) -> Performed
     ensures { result ≡ by_delete (delete_on state id) }
 {
     let done = delete::delete(state, id);
-    let left = done.state;
     let told = done.told;
-    let answer = told.answer;
-    let removed = told.removed;
-    removing(Outcome::Deleted(answer), told.gone, removed, left)
+    removing(
+        Outcome::Deleted(told.answer),
+        told.gone,
+        told.removed,
+        done.state,
+    )
 }
 
 fn by_expiration(state: LockState, asked: ExpirationRequest) -> Performed
     ensures { result ≡ by_expiration (begin_expiration_on state asked.id asked.now) }
 {
-    let id = asked.id;
-    let done = delete::begin_expiration(state, id, asked.now);
-    let left = done.state;
+    let done = delete::begin_expiration(state, asked.id, asked.now);
     let told = done.told;
-    let answer = told.answer;
-    let removed = told.removed;
-    removing(Outcome::ExpirationBegun(answer), told.gone, removed, left)
+    removing(
+        Outcome::ExpirationBegun(told.answer),
+        told.gone,
+        told.removed,
+        done.state,
+    )
 }
 
 fn by_replace(state: LockState, asked: ReplaceRequest, list: &[u64]) -> Performed
     ensures { result ≡ by_replace (commit_replacement_on state list.now asked.lock asked.breaker asked.broken) }
 {
-    let lock = asked.lock;
-    let done = replace::commit_replacement(state, list, lock, asked.breaker, asked.broken);
-    let left = done.state;
+    let done = replace::commit_replacement(state, list, asked.lock, asked.breaker, asked.broken);
     let told = done.told;
-    let answer = told.answer;
-    let removed = told.removed;
-    removing(Outcome::Replaced(answer), told.gone, removed, left)
+    removing(
+        Outcome::Replaced(told.answer),
+        told.gone,
+        told.removed,
+        done.state,
+    )
 }
 
 fn by_acknowledge(state: LockState, id: LockId) -> Performed
     ensures { result ≡ by_acknowledge (acknowledge_on state id) }
 {
     let done = acknowledge::acknowledge_defunct(state, id);
-    let told = done.told;
-    let left = done.state;
-    plain(Outcome::Acknowledged(told), left)
+    plain(Outcome::Acknowledged(done.told), done.state)
 }
 
 fn by_expiry(state: LockState, now: u64) -> Performed
     ensures { result ≡ by_expiry (expire_defunct_on state now) }
 {
     let done = acknowledge::expire_defunct(state, now);
-    let left = done.state;
     let told = done.told;
-    let answer = told.answer;
     let ids = told.ids;
     let b = state::blank_active();
     Performed {
-        outcome: Outcome::DefunctsExpired(answer),
+        outcome: Outcome::DefunctsExpired(told.answer),
         gone: 0,
         removed: [b; LockState::ACTIVE],
         lapsed: told.gone,
         ids,
-        state: left,
+        state: done.state,
     }
 }
 
 // The list holds the ids of the two requests that have some; the others don't read it.
+#[tactic(auto, unfolding(crate::specs::Calls::perform_on))]
 pub fn perform(state: LockState, request: Request, list: &[u64]) -> Performed
     ensures { result ≡ perform_on state request list.now }
 {
@@ -185,6 +179,7 @@ pub fn perform(state: LockState, request: Request, list: &[u64]) -> Performed
 }
 
 // Document 01's number of the answer.
+#[tactic(auto, unfolding(crate::specs::Calls::outcome_paper))]
 pub fn number(outcome: Outcome) -> u64
     ensures { result ≡ (outcome_paper outcome).number }
 {

@@ -6,8 +6,7 @@ use Prim.Native.Nat.{ℕ}
 use Rattle.lists.specs.Tests.{◌and◌, ◌or◌}
 use Rattle.lists.specs.Below.{any_below, lowest_below}
 use Rattle.coverage.specs.declared.LockCoverage.{LockCoverage}
-use Rattle.coverage.specs.declared.Spot.TheVariants.{NoEcu, Ecu}
-use Rattle.coverage.specs.declared.Overlap.TheVariants.{Apart, Meets}
+use Rattle.std.specs.Prelude.{Some, None}
 use Rattle.coverage.specs.Coverage.{no_coverage, whole_vehicle, word_of, in_set, covers, overlap, spot_of, shared, with_ecus}
 
 abbrev set : List ℕ → LockCoverage
@@ -18,16 +17,16 @@ abbrev whole_with_bits : LockCoverage
 whole_with_bits = record { w0 = 8; w1 = 0; w2 = 0; w3 = 0; whole = true }
 
 pub examples :
-    (shared (set (5 ∷ 6 ∷ [])) (set (3 ∷ 5 ∷ 6 ∷ [])) ≡ Meets (Ecu 5))
-    × (shared (set (5 ∷ [])) (set (6 ∷ 69 ∷ [])) ≡ Apart)
-    × (shared (set []) (set []) ≡ Apart)
-    × (shared (set (0 ∷ 63 ∷ [])) (set (0 ∷ [])) ≡ Meets (Ecu 0))
-    × (shared (set (63 ∷ 64 ∷ [])) (set (64 ∷ 127 ∷ [])) ≡ Meets (Ecu 64))
-    × (shared (set (127 ∷ 255 ∷ [])) (set (128 ∷ 255 ∷ [])) ≡ Meets (Ecu 255))
-    × (shared whole_vehicle (set (192 ∷ 200 ∷ [])) ≡ Meets (Ecu 192))
-    × (shared (set (7 ∷ [])) whole_with_bits ≡ Meets (Ecu 7))
-    × (shared whole_vehicle whole_with_bits ≡ Meets NoEcu)
-    × (shared whole_vehicle (set []) ≡ Meets NoEcu)
-    × (shared (set []) whole_vehicle ≡ Meets NoEcu)
+    (shared (set (5 ∷ 6 ∷ [])) (set (3 ∷ 5 ∷ 6 ∷ [])) ≡ Some (Some 5))
+    × (shared (set (5 ∷ [])) (set (6 ∷ 69 ∷ [])) ≡ None)
+    × (shared (set []) (set []) ≡ None)
+    × (shared (set (0 ∷ 63 ∷ [])) (set (0 ∷ [])) ≡ Some (Some 0))
+    × (shared (set (63 ∷ 64 ∷ [])) (set (64 ∷ 127 ∷ [])) ≡ Some (Some 64))
+    × (shared (set (127 ∷ 255 ∷ [])) (set (128 ∷ 255 ∷ [])) ≡ Some (Some 255))
+    × (shared whole_vehicle (set (192 ∷ 200 ∷ [])) ≡ Some (Some 192))
+    × (shared (set (7 ∷ [])) whole_with_bits ≡ Some (Some 7))
+    × (shared whole_vehicle whole_with_bits ≡ Some None)
+    × (shared whole_vehicle (set []) ≡ Some None)
+    × (shared (set []) whole_vehicle ≡ Some None)
 unfolding word_of in_set covers overlap spot_of shared any_below lowest_below ◌and◌ ◌or◌
 examples = (refl, refl, refl, refl, refl, refl, refl, refl, refl, refl, refl)

@@ -3,14 +3,11 @@
 use mathlib.Core.Path.{◌≡◌, refl, sym, ap, ap₂, ◌∙◌}
 use mathlib.Core.Bool.{Bool, true, false, not, ◌&&◌, ◌||◌, false≢true}
 use mathlib.Core.List.{List, [], ◌∷◌}
-use Prim.Native.Nat.{ℕ, zero, suc, ◌+◌, ◌*◌, ◌/◌, ◌%◌, ◌^◌, ◌<◌}
+use Prim.Native.Nat.{ℕ, zero, suc, ◌*◌, ◌/◌, ◌%◌, ◌^◌, ◌<◌}
 use native.Mathlib.Nat.{zero-lt-suc, div-add-mod', one-mul, mod-eq_of_lt}
 use native.Mathlib.Omega.{arith}
 use borrow.Author.Tests.{eq-eqb, ne_eqb, eqb-true, eqb-false}
-use native.Mathlib.Numerals.{add-one}
 use lib.Dec.{eqb}
-use lib.ListN.{length, get_or, drop}
-use lib.Seq.{drop-cons}
 use lib.Bits.{bit_and, bit_or}
 use Rattle.lists.specs.Tests.{◌and◌, ◌or◌, ◌imp◌, non}
 use Rattle.lists.specs.Lists.{any}
@@ -126,9 +123,6 @@ pub ecus_join : (c : LockCoverage) (es : List ℕ) (f : ℕ) → f < 256 → in_
 ecus_join c [] f h = sym (or_comm (in_set c f) false ∙ or_f false (in_set c f) refl)
 ecus_join c (e ∷ es) f h = ecus_join (with_ecu c e) es f h ∙ ap (λ (x : Bool). x or any (λ e. eqb e f) es) (ecu_joins c e f h) ∙ or_assoc (in_set c f) (eqb e f) (any (λ e. eqb e f) es)
 
--- ---- what a loop over the list keeps
-pub ecus_rest : (es : List ℕ) (i : ℕ) (c : LockCoverage) → i < length es → with_ecus c (drop i es) ≡ with_ecus (with_ecu c (get_or es i 0)) (drop (i + 1) es)
-ecus_rest es i c h = rw (add-one i, drop-cons es i 0 h)
-
+-- ---- the bit of an ECU
 pub bit_set : (w k : ℕ) → k < 64 → bit_or w (1 * 2 ^ k % 18446744073709551616) ≡ bit_or w (2 ^ k)
 bit_set w k h = ap (bit_or w) (ap (λ (x : ℕ). x % 18446744073709551616) (one-mul (2 ^ k)) ∙ mod-eq_of_lt (below_power k 64 h))

@@ -3,12 +3,11 @@ use Rattle.std.specs.Prelude.{ℕ, ◌+◌, false}
 use Rattle.std.specs.Int.Bits.{bit_and}
 use Rattle.std.specs.Int.Count.{count_trailing_zeros}
 use Rattle.coverage.specs.declared.LockCoverage.{LockCoverage}
-use Rattle.coverage.specs.declared.Spot.{Spot}
-use Rattle.coverage.specs.declared.Spot.TheVariants.{Ecu}
+use Rattle.std.specs.Prelude.{Option, Some}
 
 -- the ECU of the word's lowest bit, the first of which stands for ECU `from`
-abbrev pub ecu_of : ℕ → ℕ → Spot
-ecu_of w from = Ecu (from + count_trailing_zeros 64 w)
+abbrev pub ecu_of : ℕ → ℕ → Option ℕ
+ecu_of w from = Some (from + count_trailing_zeros 64 w)
 
 -- the ECUs that are in both sets
 abbrev pub in_both : LockCoverage → LockCoverage → LockCoverage

@@ -1,17 +1,13 @@
 -- Which ECUs a coverage has, when and where two coverages overlap, and when one contains another.
 -- Document 01, "Numbers that stand for things": "Coverage: the whole vehicle, or a set of ECUs, which may be empty";
 -- and the last paragraph of "A sound state"; document 02, C-13. Every definition goes by ECU numbers 0..=255.
-use Rattle.std.specs.Prelude.{ℕ, zero, suc, ◌/◌, ◌%◌, ◌^◌, Bool, true, false, cond, List, [], ◌∷◌, eqb}
-use Rattle.std.proofs.Math.Option.{Option, none, some}
+use Rattle.std.specs.Prelude.{ℕ, zero, suc, ◌/◌, ◌%◌, ◌^◌, Bool, true, false, cond, List, eqb, fold}
+use Rattle.std.specs.Prelude.{Option, None, Some}
 use Rattle.std.specs.Int.Bits.{bit_or}
 use Rattle.bits.specs.Bits.{bit_at}
 use Rattle.lists.specs.Tests.{◌and◌, ◌or◌, ◌imp◌, non}
 use Rattle.lists.specs.Below.{any_below, all_below, lowest_below}
 use Rattle.coverage.specs.declared.LockCoverage.{LockCoverage}
-use Rattle.coverage.specs.declared.Spot.{Spot}
-use Rattle.coverage.specs.declared.Spot.TheVariants.{NoEcu, Ecu}
-use Rattle.coverage.specs.declared.Overlap.{Overlap}
-use Rattle.coverage.specs.declared.Overlap.TheVariants.{Apart, Meets}
 
 abbrev pub no_coverage : LockCoverage
 no_coverage = record { w0 = 0; w1 = 0; w2 = 0; w3 = 0; whole = false }
@@ -44,35 +40,30 @@ unfoldable pub within : LockCoverage → LockCoverage → Bool
 within b a = a.whole or (non b.whole and all_below 256 (λ e. in_set b e imp in_set a e))
 
 -- ---- document 02, C-13
--- an ECU, if there is one
-abbrev pub as_spot : Option ℕ → Spot
-as_spot none = NoEcu
-as_spot (some e) = Ecu e
-
 -- "the set's lowest"
-unfoldable pub lowest_in : LockCoverage → Spot
-lowest_in c = as_spot (lowest_below 256 (in_set c))
+unfoldable pub lowest_in : LockCoverage → Option ℕ
+lowest_in c = lowest_below 256 (in_set c)
 
 -- "the lowest shared ECU number": the lowest that both cover; "of two whole vehicles" none
-unfoldable pub spot_of : LockCoverage → LockCoverage → Spot
-spot_of a b = cond (a.whole and b.whole) NoEcu (as_spot (lowest_below 256 (λ e. covers a e and covers b e)))
+unfoldable pub spot_of : LockCoverage → LockCoverage → Option ℕ
+spot_of a b = cond (a.whole and b.whole) None (lowest_below 256 (λ e. covers a e and covers b e))
 
 -- "The test for overlap, which answered yes or no": apart where it was no, else where the two meet
-unfoldable pub shared : LockCoverage → LockCoverage → Overlap
-shared a b = cond (overlap a b) (Meets (spot_of a b)) Apart
+unfoldable pub shared : LockCoverage → LockCoverage → Option (Option ℕ)
+shared a b = cond (overlap a b) (Some (spot_of a b)) None
 
 -- words of the laws on it (proofs/Shared.antt): its yes or no; "an overlap with no ECU"; "the empty set"
-abbrev pub is_met : Overlap → Bool
-is_met Apart = false
-is_met (Meets at) = true
+abbrev pub is_met : Option (Option ℕ) → Bool
+is_met None = false
+is_met (Some at) = true
 
-abbrev pub is_no_ecu : Spot → Bool
-is_no_ecu NoEcu = true
-is_no_ecu (Ecu e) = false
+abbrev pub is_no_ecu : Option ℕ → Bool
+is_no_ecu None = true
+is_no_ecu (Some e) = false
 
-abbrev pub is_met_at_none : Overlap → Bool
-is_met_at_none Apart = false
-is_met_at_none (Meets at) = is_no_ecu at
+abbrev pub is_met_at_none : Option (Option ℕ) → Bool
+is_met_at_none None = false
+is_met_at_none (Some at) = is_no_ecu at
 
 unfoldable pub is_empty : LockCoverage → Bool
 is_empty c = non c.whole and non (any_below 256 (in_set c))
@@ -86,5 +77,4 @@ abbrev pub with_ecu : LockCoverage → ℕ → LockCoverage
 with_ecu c e = record { w0 = bit_in c.w0 0 e; w1 = bit_in c.w1 1 e; w2 = bit_in c.w2 2 e; w3 = bit_in c.w3 3 e; whole = c.whole }
 
 abbrev pub with_ecus : LockCoverage → List ℕ → LockCoverage
-with_ecus c [] = c
-with_ecus c (e ∷ es) = with_ecus (with_ecu c e) es
+with_ecus c ecus = fold with_ecu c ecus

@@ -6,29 +6,16 @@ ghost use Rattle.std.specs.Prelude.{◌≡◌, ◌≤◌};
 ghost use Rattle.coverage.specs.Coverage.{no_coverage, whole_vehicle, word_of, covers, overlap, lowest_in, spot_of, shared, within, bit_in, with_ecu, with_ecus};
 ghost use Rattle.coverage.specs.Code.{ecu_of, in_both};
 
-// No array in here: an enum may then carry a lock.
-#[derive(Clone, Copy)]
+// Four words of their own: as [u64; 4] each of the tests below would be an index or a chain for its one term, and the
+// definitions that read the words by name (rules' zero_set, lookups' coverage_values, the records' codec) would index too.
+#[derive(Clone, Copy, PartialEq, Eq)]
 pub struct LockCoverage {
     pub w0: u64,
     pub w1: u64,
     pub w2: u64,
     pub w3: u64,
+    // Beside the words and not instead of them: readers and rule 0 judge the pair.
     pub whole: bool,
-}
-
-// Where two coverages that overlap meet: at the lowest ECU that both cover, or with no ECU (two whole vehicles; the whole
-// vehicle and the empty set).
-#[derive(Clone, Copy)]
-pub enum Spot {
-    NoEcu,
-    Ecu(u8),
-}
-
-// What the test for overlap answers.
-#[derive(Clone, Copy)]
-pub enum Overlap {
-    Apart,
-    Meets(Spot),
 }
 
 // The word with ECU e's bit set, if this is the word that has it.
@@ -67,15 +54,15 @@ fn word(c: LockCoverage, i: u8) -> u64
 }
 
 // The lowest ECU of a word that has one; its first bit stands for ECU `from`.
-fn ecu_of(w: u64, from: u8) -> Spot
+fn ecu_of(w: u64, from: u8) -> Option<u8>
     requires { (w ≡ 0 → ⊥) × (from ≤ 192) }
     ensures { result ≡ ecu_of w from }
 {
-    Spot::Ecu(from + u64::trailing_zeros(w) as u8)
+    Some(from + u64::trailing_zeros(w) as u8)
 }
 
 // The lowest ECU of the set.
-fn lowest_in(c: LockCoverage) -> Spot
+fn lowest_in(c: LockCoverage) -> Option<u8>
     ensures { result ≡ lowest_in c }
 {
     if c.w0 != 0 {
@@ -90,7 +77,7 @@ fn lowest_in(c: LockCoverage) -> Spot
     if c.w3 != 0 {
         return ecu_of(c.w3, 192);
     }
-    Spot::NoEcu
+    None
 }
 
 // The ECUs that are in both sets.
@@ -106,12 +93,13 @@ fn in_both(a: LockCoverage, b: LockCoverage) -> LockCoverage
     }
 }
 
-// The bits of the whole vehicle's words are not looked at: it covers every ECU.
-fn spot_of(a: LockCoverage, b: LockCoverage) -> Spot
+// Where two coverages that overlap meet: at the lowest ECU that both cover, or with no ECU (two whole vehicles; the whole
+// vehicle and the empty set). The bits of the whole vehicle's words are not looked at: it covers every ECU.
+fn spot_of(a: LockCoverage, b: LockCoverage) -> Option<u8>
     ensures { result ≡ spot_of a b }
 {
     if a.whole & b.whole {
-        return Spot::NoEcu;
+        return None;
     }
     if a.whole {
         return lowest_in(b);
@@ -151,15 +139,8 @@ impl LockCoverage {
     pub fn new(ecus: &[u8]) -> LockCoverage
         ensures { result ≡ with_ecus no_coverage ecus.now }
     {
-        let n = ecus.len();
-        let mut c = LockCoverage::empty();
-        let mut i: usize = 0;
-        while i < n {
-            let e = ecus[i];
-            i += 1;
-            c = with_ecu(c, e);
-        }
-        c
+        ecus.iter()
+            .fold(LockCoverage::empty(), |c, e| with_ecu(c, *e))
     }
 
     pub fn contains_ecu(self, e: u8) -> bool
@@ -182,13 +163,14 @@ impl LockCoverage {
                 | (self.w3 & other.w3 != 0))
     }
 
-    pub fn overlaps(self, other: LockCoverage) -> Overlap
+    // None: apart; else where they meet.
+    pub fn overlaps(self, other: LockCoverage) -> Option<Option<u8>>
         ensures { result ≡ shared self other }
     {
         if !self.meets(other) {
-            return Overlap::Apart;
+            return None;
         }
-        Overlap::Meets(spot_of(self, other))
+        Some(spot_of(self, other))
     }
 
     pub fn contains(self, other: LockCoverage) -> bool

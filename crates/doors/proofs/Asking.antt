@@ -1,5 +1,5 @@
 -- What a feed's bytes ask for is within the fields that it was read from. Assumes nothing.
-use mathlib.Core.Path.{◌≡◌, refl, sym, subst}
+use mathlib.Core.Path.{◌≡◌, refl, sym, ap, subst}
 use mathlib.Core.Bool.{Bool, true, false, cond}
 use mathlib.Core.List.{List, [], ◌∷◌}
 use Prim.Native.Nat.{ℕ, ◌+◌, ◌*◌, ◌≤◌}
@@ -9,8 +9,8 @@ use lib.Dec.{eqb}
 use Rattle.lists.specs.Tests.{Yes}
 use Rattle.records.specs.declared.requests.Request.{Request}
 use Rattle.records.specs.declared.requests.Request.TheVariants.{Insert, InsertVehicle, Renew, Delete, BeginExpiration, Replace, Acknowledge, ExpireDefunct}
-use Rattle.records.specs.declared.requests.Asked.{Asked}
-use Rattle.records.specs.declared.requests.Asked.TheVariants.{Good, BadField}
+use Rattle.std.specs.Prelude.{Option, Some, None}
+use Rattle.lists.proofs.Options.{Some_injective}
 use Rattle.records.specs.Numbers.{little}
 use Rattle.records.specs.Layouts.{total, Fit}
 use Rattle.records.specs.Codecs.{Codec, in_body, decode_by, number, counted, decode_counted}
@@ -27,36 +27,36 @@ use Rattle.doors.proofs.Ranged.{Brought}
 pub decoded_fit : {R : Type 0} (c : Codec R) → Lawful c → (s : List ℕ) → Bytes s → total c.layout ≤ length s → Yes (c.right (in_body c s)) → Fit c.layout (c.numbers (c.made (in_body c s)))
 decoded_fit c w s y h t = (well_read c w s (c.made (in_body c s)) y h t refl).1.fit
 
-never : (q : ℕ) (r : Request) → BadField ≡ Good q r → ⊥
+never : (q : ℕ) (r : Request) → ◌≡◌ {A = Option (ℕ × Request)} None (Some (q, r)) → ⊥
 never q r e = let z : ◌≡◌ {A = ℕ} 0 1 = cc in omega arith
 
-same_request : (p q : ℕ) (a r : Request) → Good p a ≡ Good q r → a ≡ r
-same_request p q a r e = cc
+same_request : (p q : ℕ) (a r : Request) → ◌≡◌ {A = Option (ℕ × Request)} (Some (p, a)) (Some (q, r)) → a ≡ r
+same_request p q a r e = ap (λ (x : ℕ × Request). x.1) (Some_injective (p, a) (q, r) e)
 
 module _ (b : List ℕ) (y : Bytes b) (q : ℕ) (r : Request) (ws : List ℕ) where
   -- one of c, asked for by ask
   module _ {R : Type 0} (c : Codec R) (w : Lawful c) (ask : R → Request) (brings : (x : R) → Fit c.layout (c.numbers x) → Brought (op_of (ask x) ws)) where
-    plain_brings : decode_by (numbered c) (asked ask) BadField b ≡ Good q r → Brought (op_of r ws)
+    plain_brings : decode_by (numbered c) (asked ask) None b ≡ Some (q, r) → Brought (op_of r ws)
     plain_brings e =
         let v = in_body (numbered c) b in
-        let a = passed (length b) (total (numbered c).layout) ((numbered c).right v) (asked ask ((numbered c).made v)) BadField (Good q r) (never q r) e in
+        let a = passed (length b) (total (numbered c).layout) ((numbered c).right v) (asked ask ((numbered c).made v)) None (Some (q, r)) (never q r) e in
         let f = decoded_fit (numbered c) (numbered_lawful c w) b y (omega (arith, a.0)) a.1 in
         subst (λ (z : Request). Brought (op_of z ws)) (same_request _ q _ r a.2) (brings ((numbered c).made v).1 f.1)
 
-    counted_brings : decode_counted (numbered c) (asked ask) BadField b ≡ Good q r → Brought (op_of r ws)
+    counted_brings : decode_counted (numbered c) (asked ask) None b ≡ Some (q, r) → Brought (op_of r ws)
     counted_brings e =
         let d = counted (numbered c) in
         let v = in_body d b in
-        let a = passed (length b) (total d.layout + (d.made v).1 * 16) (d.right v) (asked ask (d.made v).0) BadField (Good q r) (never q r) e in
+        let a = passed (length b) (total d.layout + (d.made v).1 * 16) (d.right v) (asked ask (d.made v).0) None (Some (q, r)) (never q r) e in
         let k = numbered_lawful c w in
         let f = decoded_fit (counted (numbered c)) (counted_lawful 2 (numbered c) k) b y (omega (arith, a.0)) a.1 in
         subst (λ (z : Request). Brought (op_of z ws)) (same_request _ q _ r a.2) (brings (d.made v).0.1 (fit_split (numbered c).layout (little 2 ∷ []) ((numbered c).numbers (d.made v).0) ((d.made v).1 ∷ []) (sym (k.count (d.made v).0)) f).0.1)
 
-  one_of : (k : Bool) (x z : Asked) → (x ≡ Good q r → Brought (op_of r ws)) → (z ≡ Good q r → Brought (op_of r ws)) → cond k x z ≡ Good q r → Brought (op_of r ws)
+  one_of : (k : Bool) (x z : Option (ℕ × Request)) → (x ≡ Some (q, r) → Brought (op_of r ws)) → (z ≡ Some (q, r) → Brought (op_of r ws)) → cond k x z ≡ Some (q, r) → Brought (op_of r ws)
   one_of true x z f g e = f e
   one_of false x z f g e = g e
 
-  pub request_brings : (k : ℕ) → request_of k b ≡ Good q r → Brought (op_of r ws)
+  pub request_brings : (k : ℕ) → request_of k b ≡ Some (q, r) → Brought (op_of r ws)
   unfolding request_of
   request_brings k =
       one_of (eqb k 16) _ _ (plain_brings active active_lawful Insert (λ x f. f))

@@ -6,16 +6,17 @@ use Prim.Native.Nat.{ℕ}
 use native.Mathlib.Omega.{arith}
 use lib.Dec.{eqb, leb}
 use Rattle.lists.proofs.Tests.{cond_both}
-use Rattle.rules.specs.declared.Verdict.TheVariants.{Sound}
+use Rattle.std.specs.Prelude.{Result, Ok, Err, ⊤}
 use Rattle.rules.specs.Rules.{broken_rule}
 use Rattle.promises.proofs.Spots.{perform_conflict}
 use Rattle.image.specs.declared.Spare.{Spare}
-use Rattle.image.specs.declared.Reading.{Reading}
-use Rattle.image.specs.declared.Reading.TheVariants as reading
+use Rattle.image.specs.declared.ImageRefusal.{ImageRefusal}
+use Rattle.records.specs.declared.frame.Unread.TheVariants.{Torn, BadKind, BadField}
+use Rattle.image.specs.declared.ImageRefusal.TheVariants as image
 use Rattle.image.specs.Image.{reading_paper}
 use Rattle.feed.specs.declared.events.Step.{Step}
-use Rattle.feed.specs.declared.taking.Taken.{Taken}
-use Rattle.feed.specs.declared.taking.Taken.TheVariants as taking
+use Rattle.records.specs.declared.frame.Unread.{Unread}
+use Rattle.feed.specs.declared.taking.Placed.{Placed}
 use Rattle.feed.specs.Feed.{distance, numbered, body_in, taken_at, act_on, turn_on, taken_on, step_on, event_paper, is_applied}
 use Rattle.feed.proofs.Turning.{step_comes}
 use Rattle.cablegorse.specs.declared.Applied.{Applied}
@@ -30,12 +31,12 @@ module _ (sp : Spare) (f : List ℕ) (at : ℕ) where
   abbrev Tells : Step → Type 0
   Tells z = (event_paper z.told.event).number ≡ 7 → ConflictAt sp f at (event_paper z.told.event)
 
-  taken_tells : broken_rule sp.state ≡ Sound → (t : Taken) → taken_at f at ≡ t → Tells (taken_on sp f at t)
+  taken_tells : broken_rule sp.state ≡ Ok tt → (t : Result Placed Unread) → taken_at f at ≡ t → Tells (taken_on sp f at t)
   unfolding turn_on act_on event_paper
-  taken_tells e (taking.Torn x) q = λ n. absurd (omega (arith, n))
-  taken_tells e (taking.BadKind x) q = λ n. absurd (omega (arith, n))
-  taken_tells e (taking.BadField x) q = λ n. absurd (omega (arith, n))
-  taken_tells e (taking.Record p) q =
+  taken_tells e (Err (Torn x)) q = λ n. absurd (omega (arith, n))
+  taken_tells e (Err (BadKind x)) q = λ n. absurd (omega (arith, n))
+  taken_tells e (Err (BadField x)) q = λ n. absurd (omega (arith, n))
+  taken_tells e (Ok p) q =
       let x = numbered p (body_in f p.frame) in
       cond_both Tells _ _ (eqb (distance x.number sp.expected) 0)
       (λ t n. record { placed = p; taken = q; refused = perform_conflict sp.state e x.list x.request n })
@@ -46,14 +47,14 @@ module _ (sp : Spare) (f : List ℕ) (at : ℕ) where
   step_conflict = step_comes sp f at Tells (λ r n. absurd (omega (arith, n))) (λ e. taken_tells e (taken_at f at) refl)
 
 -- ---- the call: an image that is refused, and an output that is too short, have other numbers
-reading_other : (r : Reading) → (reading_told r).number ≡ 7 → ⊥
+reading_other : (r : Result ⊤ ImageRefusal) → (reading_told r).number ≡ 7 → ⊥
 unfolding reading_told reading_paper
-reading_other reading.Done n = omega (arith, n)
-reading_other (reading.Torn x) n = omega (arith, n)
-reading_other (reading.BadKind x) n = omega (arith, n)
-reading_other (reading.BadField x) n = omega (arith, n)
-reading_other (reading.BadOrder x) n = omega (arith, n)
-reading_other (reading.UnsoundState x) n = omega (arith, n)
+reading_other (Ok tt) n = omega (arith, n)
+reading_other (Err (image.Torn x)) n = omega (arith, n)
+reading_other (Err (image.BadKind x)) n = omega (arith, n)
+reading_other (Err (image.BadField x)) n = omega (arith, n)
+reading_other (Err (image.BadOrder x)) n = omega (arith, n)
+reading_other (Err (image.UnsoundState x)) n = omega (arith, n)
 
 module _ (s f : List ℕ) (at : ℕ) (n m x : List ℕ) where
   abbrev Answers : Changed → Type 0

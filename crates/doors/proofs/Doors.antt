@@ -20,9 +20,9 @@ use Rattle.lists.proofs.Tests.{cond_both}
 use Rattle.ids.specs.declared.LockId.{LockId}
 use Rattle.state.specs.declared.ScopeKey.{ScopeKey}
 use Rattle.state.specs.Model.{model_of}
-use Rattle.rules.specs.declared.Verdict.TheVariants.{Sound}
+use Rattle.std.specs.Prelude.{Result, Option, Ok, Err, Some, None, ⊤}
 use Rattle.rules.specs.Rules.{broken_rule}
-use Rattle.locks.specs.declared.Dropped.{Dropped}
+use Rattle.locks.specs.Locks.{Dropped}
 use Rattle.locks.specs.Locks.{delete_defunct_on}
 use Rattle.promises.specs.Steps.{acknowledge, step_on as directOn}
 use Rattle.promises.proofs.Dropping.{drop_comes, delete_defunct_accepted}
@@ -30,19 +30,19 @@ use Rattle.records.specs.Numbers.{stored}
 use Rattle.records.specs.Wire.{id}
 use Rattle.image.specs.declared.Spare.{Spare}
 use Rattle.image.specs.declared.Imaged.{Imaged}
-use Rattle.image.specs.declared.Reading.{Reading}
-use Rattle.image.specs.declared.Reading.TheVariants as reading
-use Rattle.image.specs.declared.Writing.TheVariants as W
+use Rattle.image.specs.declared.ImageRefusal.{ImageRefusal}
+use Rattle.records.specs.declared.frame.Unread.TheVariants.{Torn, BadKind, BadField}
 use Rattle.image.specs.Image.{read_on, done, write_on}
 use Rattle.image.specs.Ranges.{InTypes}
 use Rattle.image.proofs.Trips.{accepted, read_what_was_written}
 use Rattle.image.proofs.Writes.{length_image, sound_stored}
 use Rattle.records.proofs.Numbers.{Bytes}
-use Rattle.feed.specs.declared.events.Event.{Event}
-use Rattle.feed.specs.declared.events.Event.TheVariants as E
+use Rattle.feed.specs.declared.events.FeedRefusal.{FeedRefusal}
+use Rattle.feed.specs.declared.events.FeedRefusal.TheVariants as feed
+use Rattle.calls.specs.declared.Outcome.{Outcome}
 use Rattle.feed.specs.declared.events.Step.{Step}
-use Rattle.feed.specs.declared.taking.Taken.{Taken}
-use Rattle.feed.specs.declared.taking.Taken.TheVariants as taking
+use Rattle.records.specs.declared.frame.Unread.{Unread}
+use Rattle.feed.specs.declared.taking.Placed.{Placed}
 use Rattle.feed.specs.Feed.{numbered, body_in, taken_at, act_on, taken_on, step_on, event_paper, is_applied}
 use Rattle.feed.specs.Runs.{stops, run_on, fresh, follow_on}
 use Rattle.feed.proofs.Turning.{turn_comes, step_comes}
@@ -52,8 +52,6 @@ use Rattle.takeover.proofs.Keeping.{step_keeps}
 use Rattle.cablegorse.specs.declared.Told.{Told}
 use Rattle.cablegorse.specs.Telling.{reading_told}
 use Rattle.cablegorse.specs.Boundary.{on_image}
-use Rattle.cablegorse.specs.declared.arguments.Scoped.{Scoped}
-use Rattle.cablegorse.specs.declared.arguments.Scoped.TheVariants as scoped
 use Rattle.cablegorse.specs.Questions.{scoped_of}
 use Rattle.cablegorse.specs.Changes.{Changed, image_bytes, size_of, any_short, step_put, apply_of, Left, is_gone, spare_after, drop_put, on_scoped_left, delete_of}
 use Rattle.cablegorse.specs.Chunks.{Chunked, run_put, follow_of}
@@ -64,7 +62,7 @@ use Rattle.doors.proofs.Typed.{accepted_typed, direct_typed, step_typed}
 
 -- ---- an image that is read
 -- what holds of both ends holds of the call
-pub image_comes : {A : Type 0} (P : A → Type 0) (s : List ℕ) (refused : Told → A) (go : Spare → A) → ((r : Reading) → P (refused (reading_told r))) → ((sp : Spare) → reads s sp → P (go sp)) → P (on_image s refused go)
+pub image_comes : {A : Type 0} (P : A → Type 0) (s : List ℕ) (refused : Told → A) (go : Spare → A) → ((r : Result ⊤ ImageRefusal) → P (refused (reading_told r))) → ((sp : Spare) → reads s sp → P (go sp)) → P (on_image s refused go)
 unfolding on_image
 image_comes P s refused go f g =
     cond_both P _ _ (eqb (reading_told (read_on s).told).number 0)
@@ -72,9 +70,9 @@ image_comes P s refused go f g =
     (λ t. f (read_on s).told)
 
 -- ---- a spare within the types, written where it has room
-module _ (sp : Spare) (r : InTypes sp) (e : broken_rule sp.state ≡ Sound) (n : List ℕ) (room : No (ltb (length n) (size_of sp))) where
+module _ (sp : Spare) (r : InTypes sp) (e : broken_rule sp.state ≡ Ok tt) (n : List ℕ) (room : No (ltb (length n) (size_of sp))) where
   -- the bytes written without a test are those that the tested writer writes
-  pub same_bytes_lem : write_on sp n ≡ done (W.Done (size_of sp)) (stored n 0 (image_bytes sp))
+  pub same_bytes_lem : write_on sp n ≡ done (Ok (size_of sp)) (stored n 0 (image_bytes sp))
   same_bytes_lem = sound_stored sp n e (ltb-false (length n) (size_of sp) room)
 
   some_bytes : size_of sp ≡ 0 → ⊥
@@ -123,37 +121,37 @@ apply_door s f ys yf at n m x = typed_door s f at n m x (λ sp e. accepted_typed
 pub one_spare : (s : List ℕ) (sp z : Spare) → reads s sp → reads s z → sp ≡ z
 one_spare s sp z e g = ap (λ (i : Imaged). i.spare) (sym e ∙ g)
 
-goes_on : (v : Event) → is_applied v ≡ true → stops v ≡ false
+goes_on : (v : Result Outcome FeedRefusal) → is_applied v ≡ true → stops v ≡ false
 unfolding is_applied
-goes_on (E.UnsoundState n) t = absurd (false≢true t)
-goes_on (E.Torn n) t = absurd (false≢true t)
-goes_on (E.BadKind n) t = absurd (false≢true t)
-goes_on (E.BadField n) t = absurd (false≢true t)
-goes_on (E.Repeat n) t = absurd (false≢true t)
-goes_on (E.Ahead n) t = absurd (false≢true t)
-goes_on (E.Applied o) t = refl
+goes_on (Err (feed.UnsoundState n)) t = absurd (false≢true t)
+goes_on (Err (feed.Torn n)) t = absurd (false≢true t)
+goes_on (Err (feed.BadKind n)) t = absurd (false≢true t)
+goes_on (Err (feed.BadField n)) t = absurd (false≢true t)
+goes_on (Err (feed.Repeat n)) t = absurd (false≢true t)
+goes_on (Err (feed.Ahead n)) t = absurd (false≢true t)
+goes_on (Ok o) t = refl
 
-passes_by : (v : Event) → is_applied v ≡ false → ((event_paper v).number ≡ 15) ⊎ ((event_paper v).number ≡ 16) → stops v ≡ false
+passes_by : (v : Result Outcome FeedRefusal) → is_applied v ≡ false → ((event_paper v).number ≡ 15) ⊎ ((event_paper v).number ≡ 16) → stops v ≡ false
 unfolding is_applied event_paper
-passes_by (E.UnsoundState n) t w = absurd (⊎_elim (λ z. omega (arith, z)) (λ z. omega (arith, z)) w)
-passes_by (E.Torn n) t w = absurd (⊎_elim (λ z. omega (arith, z)) (λ z. omega (arith, z)) w)
-passes_by (E.BadKind n) t w = absurd (⊎_elim (λ z. omega (arith, z)) (λ z. omega (arith, z)) w)
-passes_by (E.BadField n) t w = absurd (⊎_elim (λ z. omega (arith, z)) (λ z. omega (arith, z)) w)
-passes_by (E.Repeat n) t w = refl
-passes_by (E.Ahead n) t w = refl
-passes_by (E.Applied o) t w = absurd (false≢true (sym t))
+passes_by (Err (feed.UnsoundState n)) t w = absurd (⊎_elim (λ z. omega (arith, z)) (λ z. omega (arith, z)) w)
+passes_by (Err (feed.Torn n)) t w = absurd (⊎_elim (λ z. omega (arith, z)) (λ z. omega (arith, z)) w)
+passes_by (Err (feed.BadKind n)) t w = absurd (⊎_elim (λ z. omega (arith, z)) (λ z. omega (arith, z)) w)
+passes_by (Err (feed.BadField n)) t w = absurd (⊎_elim (λ z. omega (arith, z)) (λ z. omega (arith, z)) w)
+passes_by (Err (feed.Repeat n)) t w = refl
+passes_by (Err (feed.Ahead n)) t w = refl
+passes_by (Ok o) t w = absurd (false≢true (sym t))
 
 -- what didn't reach its operation leaves the spare
 module _ (sp : Spare) (f : List ℕ) (at : ℕ) where
   abbrev Unmoved : Step → Type 0
   Unmoved z = is_applied z.told.event ≡ false → z.spare ≡ sp
 
-  taken_unmoved : (t : Taken) → Unmoved (taken_on sp f at t)
+  taken_unmoved : (t : Result Placed Unread) → Unmoved (taken_on sp f at t)
   unfolding act_on is_applied
-  taken_unmoved (taking.Torn x) u = refl
-  taken_unmoved (taking.BadKind x) u = refl
-  taken_unmoved (taking.BadField x) u = refl
-  taken_unmoved (taking.Record p) u = turn_comes sp p.frame.next (numbered p (body_in f p.frame)) Unmoved (λ d v. absurd (false≢true (sym v))) (λ v g w. refl) u
+  taken_unmoved (Err (Torn x)) u = refl
+  taken_unmoved (Err (BadKind x)) u = refl
+  taken_unmoved (Err (BadField x)) u = refl
+  taken_unmoved (Ok p) u = turn_comes sp p.frame.next (numbered p (body_in f p.frame)) Unmoved (λ d v. absurd (false≢true (sym v))) (λ v g w. refl) u
 
   pub unmoved : Unmoved (step_on sp f at)
   unmoved = step_comes sp f at Unmoved (λ n u. refl) (λ e. taken_unmoved (taken_at f at))
@@ -197,7 +195,7 @@ typed_run f y (applied {image} {last} {at} {end} n m x p rest) sp e r = applied_
 typed_run f y (passed {image} {last} {at} {end} n m x p w rest) sp e r = passed_run image f last at n m x y sp e r (calls rest) p w (typed_run f y rest sp e r) (same_door image f last at n m x y sp e r (calls rest))
 
 -- from any accepted image
-pub chain_run : (f : List ℕ) → Bytes f → {s last : List ℕ} {at end : ℕ} → Bytes s → (ch : Chain f s at last end) → (sp : Spare) → reads s sp → read_on last ≡ record { told = reading.Done; spare = run_on (calls ch) sp f at }
+pub chain_run : (f : List ℕ) → Bytes f → {s last : List ℕ} {at end : ℕ} → Bytes s → (ch : Chain f s at last end) → (sp : Spare) → reads s sp → read_on last ≡ record { told = Ok tt; spare = run_on (calls ch) sp f at }
 chain_run f y {s} ys ch sp e = typed_run f y ch sp e (accepted_typed s ys sp e)
 
 -- ---- cablegorse_delete_defunct: nothing written and every byte kept, or the image of the spare without the entry, from which
@@ -227,9 +225,9 @@ module _ (s : List ℕ) (i : LockId) (subject : ℕ) (n : List ℕ) where
         (λ t. cond_both Deleted _ _ (ltb (length n) (size_of a)) (λ u. kept refl refl) (λ u. wrote sp k e refl (some_bytes a r q n u) (read_back a r q n u) r))
         (λ t. kept refl refl)
 
-    scoped_door : (sp : Spare) → reads s sp → (o : Scoped) → Deleted (on_scoped_left n (λ k. drop_put sp.expected (delete_defunct_on sp.state i k subject) n) o)
-    scoped_door sp e scoped.Bad = kept refl refl
-    scoped_door sp e (scoped.At k) = drop_door sp e k
+    scoped_door : (sp : Spare) → reads s sp → (o : Option ScopeKey) → Deleted (on_scoped_left n (λ k. drop_put sp.expected (delete_defunct_on sp.state i k subject) n) o)
+    scoped_door sp e None = kept refl refl
+    scoped_door sp e (Some k) = drop_door sp e k
 
 pub delete_door : (s : List ℕ) → Bytes s → (hi lo kind number subject : ℕ) (n : List ℕ) → Deleted s (id hi lo) subject n (delete_of s hi lo kind number subject n)
 unfolding delete_of
@@ -239,11 +237,11 @@ delete_door s y hi lo kind number subject n =
 
 -- ---- cablegorse_follow: nothing written and every byte kept, or the image of the plain run over the chunk, which is what a chain
 -- of calls over its records comes to (chain_run)
-pub run_kept : (f : List ℕ) → Bytes f → (k : ℕ) (sp : Spare) (at : ℕ) → InTypes sp → broken_rule sp.state ≡ Sound → InTypes (run_on k sp f at) × (broken_rule (run_on k sp f at).state ≡ Sound)
+pub run_kept : (f : List ℕ) → Bytes f → (k : ℕ) (sp : Spare) (at : ℕ) → InTypes sp → broken_rule sp.state ≡ Ok tt → InTypes (run_on k sp f at) × (broken_rule (run_on k sp f at).state ≡ Ok tt)
 unfolding run_on
 run_kept f y zero sp at r q = (r, q)
 run_kept f y (suc k) sp at r q =
-    cond_both (λ (z : Spare). InTypes z × (broken_rule z.state ≡ Sound)) _ _ (stops (step_on sp f at).told.event) (λ t. (r, q))
+    cond_both (λ (z : Spare). InTypes z × (broken_rule z.state ≡ Ok tt)) _ _ (stops (step_on sp f at).told.event) (λ t. (r, q))
     (λ t. run_kept f y k (step_on sp f at).spare (step_on sp f at).told.next (step_typed sp r q f y at) (step_keeps sp f at q))
 
 module _ (s f n : List ℕ) where
@@ -258,7 +256,7 @@ module _ (s f n : List ℕ) where
       let g : run.spare ≡ run_on (length f) sp f 0 = follow_runs (length f) (fresh sp) f in
       let w = run_kept f y (length f) sp 0 r (accepted s sp e).sound in
       let r' : InTypes run.spare = subst InTypes (sym g) w.0 in
-      let q : broken_rule run.spare.state ≡ Sound = subst (λ (z : Spare). broken_rule z.state ≡ Sound) (sym g) w.1 in
+      let q : broken_rule run.spare.state ≡ (Ok tt) = subst (λ (z : Spare). broken_rule z.state ≡ Ok tt) (sym g) w.1 in
       cond_both Chunk _ _ (ltb (length n) (size_of run.spare)) (λ u. kept refl refl) (λ u.
       wrote sp e (some_bytes run.spare r' q n u) (subst (reads (take (size_of run.spare) (stored n 0 (image_bytes run.spare)))) g (read_back run.spare r' q n u)) (ap (λ (z : Spare). z.expected) g))
 

@@ -12,7 +12,7 @@ use lib.ListN.{length, take}
 use lib.Seq.{take_all}
 use borrow.Author.Tests.{le-ltb}
 use Rattle.lists.proofs.Tests.{cond_false}
-use Rattle.rules.specs.declared.Verdict.TheVariants.{Sound}
+use Rattle.std.specs.Prelude.{Ok}
 use Rattle.rules.specs.Rules.{broken_rule}
 use Rattle.records.specs.declared.requests.Request.{Request}
 use Rattle.records.specs.Numbers.{bytes_of_all}
@@ -77,7 +77,7 @@ more s sp c cs e r z p =
     all zero = e
     all (suc k) = p.images k
 
-primary : (cs : List Call) (s : List ℕ) (sp : Spare) → s ≡ image_bytes sp → SpareTyped sp → broken_rule sp.state ≡ Sound → Each Callable cs → Calls s cs → Primary s sp cs
+primary : (cs : List Call) (s : List ℕ) (sp : Spare) → s ≡ image_bytes sp → SpareTyped sp → broken_rule sp.state ≡ Ok tt → Each Callable cs → Calls s cs → Primary s sp cs
 unfolding Calls
 primary [] s sp e y q t h = none s sp e
 primary (c ∷ cs) s sp e y q t h =

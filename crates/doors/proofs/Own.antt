@@ -19,14 +19,14 @@ use Rattle.lists.specs.Tests.{◌and◌, ◌or◌, No}
 use Rattle.lists.proofs.Tests.{or_no, cond_true, cond_false, cond_both}
 use Rattle.state.specs.declared.LockState.{LockState}
 use Rattle.state.specs.declared.ScopeKey.{ScopeKey}
-use Rattle.rules.specs.declared.Verdict.TheVariants.{Sound}
+use Rattle.std.specs.Prelude.{Result, Ok, Err}
 use Rattle.rules.specs.Rules.{broken_rule}
 use Rattle.lookups.proofs.Verdicts.{on_sound_lem}
 use Rattle.promises.specs.Results.{op_of}
 use Rattle.records.specs.declared.requests.Request.{Request}
 use Rattle.records.specs.declared.requests.Request.TheVariants.{Insert, InsertVehicle, Renew, Delete, BeginExpiration, Replace, Acknowledge, ExpireDefunct}
-use Rattle.records.specs.declared.sending.Sent.{Sent}
-use Rattle.records.specs.declared.sending.Sent.TheVariants as sent
+use Rattle.records.specs.declared.sending.Unsent.{Unsent}
+use Rattle.records.specs.declared.sending.Unsent.TheVariants.{BadList, ListTooLong, ShortOutput}
 use Rattle.records.specs.Numbers.{splice, stored}
 use Rattle.records.specs.Wire.{flag, scope_kind, scope_number, scope_of, active}
 use Rattle.records.specs.Feeds.{breaking}
@@ -52,8 +52,6 @@ use Rattle.takeover.proofs.Receipts.{after_small}
 use Rattle.takeover.proofs.Own.{own_step}
 use Rattle.cablegorse.specs.declared.Told.{Told}
 use Rattle.cablegorse.specs.declared.Operation.{Operation}
-use Rattle.cablegorse.specs.declared.sending.Asked.{Asked}
-use Rattle.cablegorse.specs.declared.sending.Asked.TheVariants as asked
 use Rattle.cablegorse.specs.Telling.{told_of, reading_told, kept}
 use Rattle.cablegorse.specs.Boundary.{on_image}
 use Rattle.cablegorse.specs.Changes.{image_bytes, Changed, any_short, short_put, whole_put, step_put, apply_of}
@@ -83,9 +81,9 @@ module _ (o : Operation) (t : InTypes o) where
       (t.hi, (t.lo, (scope_fits.0, (scope_fits.1, (flag_small (eqb o.exclusive 1), (flag_small (not (eqb o.coverage 0)), (t.w0, (t.w1, (t.w2, (t.w3, (t.subject, (t.principal, (t.metadata, tt)))))))))))))
       (t.expires, (flag_small (eqb o.child 1), (t.parenthi, (t.parentlo, tt))))
 
-  abbrev Fits : Asked → Type 0
-  Fits (asked.Refused p) = Unit {0}
-  Fits (asked.Request r) = RequestTyped r
+  abbrev Fits : Result Request Told → Type 0
+  Fits (Err p) = Unit {0}
+  Fits (Ok r) = RequestTyped r
 
   lock_asked : Fits (asked_lock o)
   unfolding asked_lock
@@ -110,10 +108,10 @@ module _ (o : Operation) (t : InTypes o) where
       cond_both Fits _ _ (eqb o.kind 22) (λ u. (t.hi, (t.lo, tt))) (λ u.
       cond_both Fits _ _ (eqb o.kind 23) (λ u. (t.now, tt)) (λ u. tt))))))))
 
-  pub typed_request : (r : Request) → asked_of o ≡ asked.Request r → RequestTyped r
+  pub typed_request : (r : Request) → asked_of o ≡ Ok r → RequestTyped r
   typed_request r a = subst Fits a asked_fits
 
-  pub typed_sendable : (ws : List ℕ) → Words ws → (q : ℕ) → q < 2 ^ 32 → (r : Request) → asked_of o ≡ asked.Request r → (size : ℕ) → needed_on r ws ≡ sent.Done size → Sendable q r ws
+  pub typed_sendable : (ws : List ℕ) → Words ws → (q : ℕ) → q < 2 ^ 32 → (r : Request) → asked_of o ≡ Ok r → (size : ℕ) → needed_on r ws ≡ Ok size → Sendable q r ws
   typed_sendable ws w q h r a size g =
       let m = room_of r ws size g in
       record { sequence = h; numbers = typed_request r a; list = λ u. record { even = (m.list u).0; few = (m.list u).1; words = w } }
@@ -129,7 +127,7 @@ typed_brings (Replace x) ws f = let p = fit_split active.layout breaking.layout 
 typed_brings (Acknowledge i) ws f = tt
 typed_brings (ExpireDefunct now) ws f = tt
 
-pub own_typed : (sp : Spare) → SpareTyped sp → broken_rule sp.state ≡ Sound → (r : Request) (ws : List ℕ) → RequestTyped r → SpareTyped (moved (perform_on sp.state r ws).state sp)
+pub own_typed : (sp : Spare) → SpareTyped sp → broken_rule sp.state ≡ Ok tt → (r : Request) (ws : List ℕ) → RequestTyped r → SpareTyped (moved (perform_on sp.state r ws).state sp)
 own_typed sp y e r ws f =
     subst (λ (s : LockState). SpareTyped (moved s sp)) (sym (perform_state sp.state r ws)) (direct_typed sp y e (op_of r ws) (typed_brings r ws f) _ (after_small sp.expected))
 
@@ -150,10 +148,10 @@ module _ (s : List ℕ) (o : Operation) (ws n m x f : List ℕ) where
     wrote : (sp : Spare) → reads s sp → (r : Request) → c.told.part ≡ 2 → Sends s o ws n m x f sp r c → Performing c
 
   module _ (t : InTypes o) (w : Words ws) (sp : Spare) (e : reads s sp) (y : SpareTyped sp) where
-    sound : broken_rule sp.state ≡ Sound
+    sound : broken_rule sp.state ≡ Ok tt
     sound = (accepted s sp e).sound
 
-    module _ (r : Request) (a : asked_of o ≡ asked.Request r) (size : ℕ) (g : needed_on r ws ≡ sent.Done size) where
+    module _ (r : Request) (a : asked_of o ≡ Ok r) (size : ℕ) (g : needed_on r ws ≡ Ok size) where
       can : Sendable sp.expected r ws
       can = typed_sendable o t ws w sp.expected y.expected r a size g
 
@@ -191,14 +189,14 @@ module _ (s : List ℕ) (o : Operation) (ws n m x f : List ℕ) where
         unfolding any_short
         image_room = ltb-false _ _ (or_no _ _ (or_no _ _ u).0).0
 
-        written : (out : List ℕ) → size ≤ length out → write_of sp.expected o ws out ≡ kept (told_of (sent_paper (sent.Done size))) (take size (splice f 0 bytes) ++ drop size out)
+        written : (out : List ℕ) → size ≤ length out → write_of sp.expected o ws out ≡ kept (told_of (sent_paper (Ok size))) (take size (splice f 0 bytes) ++ drop size out)
         unfolding write_of
         written out h =
             let k = sym (room_of r ws size g).size in
             ap (on_asked (λ p. kept p out) (record_put sp.expected ws out)) a
             ∙ ap (λ (z : Written). kept (told_of (sent_paper z.told)) z.out) (sent_done sp.expected r ws can out (omega (arith, k, h)))
-            ∙ ap (λ (j : ℕ). kept (told_of (sent_paper (sent.Done j))) (bytes ++ drop j out)) k
-            ∙ ap (λ (b : List ℕ). kept (told_of (sent_paper (sent.Done size))) (b ++ drop size out)) (sym front)
+            ∙ ap (λ (j : ℕ). kept (told_of (sent_paper (Ok j))) (bytes ++ drop j out)) k
+            ∙ ap (λ (b : List ℕ). kept (told_of (sent_paper (Ok size))) (b ++ drop size out)) (sym front)
 
         put_sends : Sends s o ws n m x f sp r (with_record (whole_put 0 direct n m x) (splice f 0 bytes))
         unfolding sent_paper
@@ -223,15 +221,15 @@ module _ (s : List ℕ) (o : Operation) (ws n m x f : List ℕ) where
           let room = (or_no _ _ u).0 in
           subst (λ (z : Changed). Performing (with_record z (splice f 0 bytes))) (sym (cond_false _ (short_put 0 direct n m x) (whole_put 0 direct n m x) room)) (wrote sp e r refl (put_sends room)))
 
-    needed_door : (r : Request) → asked_of o ≡ asked.Request r → (z : Sent) → needed_on r ws ≡ z → Performing (needed_put n m x f sp r ws z)
-    needed_door r a (sent.Done size) g = subst (λ (st : Step). Performing (own_put_lem n m x f st (bytes r a size g))) (sym (read_step r a size g)) (own_door r a size g)
-    needed_door r a sent.BadList g = stayed (λ z. omega (arith, z)) refl refl refl refl
-    needed_door r a sent.ListTooLong g = stayed (λ z. omega (arith, z)) refl refl refl refl
-    needed_door r a (sent.ShortOutput k) g = stayed (λ z. omega (arith, z)) refl refl refl refl
+    needed_door : (r : Request) → asked_of o ≡ Ok r → (z : Result ℕ Unsent) → needed_on r ws ≡ z → Performing (needed_put n m x f sp r ws z)
+    needed_door r a (Ok size) g = subst (λ (st : Step). Performing (own_put_lem n m x f st (bytes r a size g))) (sym (read_step r a size g)) (own_door r a size g)
+    needed_door r a (Err BadList) g = stayed (λ z. omega (arith, z)) refl refl refl refl
+    needed_door r a (Err ListTooLong) g = stayed (λ z. omega (arith, z)) refl refl refl refl
+    needed_door r a (Err (ShortOutput k)) g = stayed (λ z. omega (arith, z)) refl refl refl refl
 
-    asked_door : (z : Asked) → asked_of o ≡ z → Performing (asked_put n m x f sp ws z)
-    asked_door (asked.Refused p) a = stayed (λ z. omega (arith, z)) refl refl refl refl
-    asked_door (asked.Request r) a = needed_door r a (needed_on r ws) refl
+    asked_door : (z : Result Request Told) → asked_of o ≡ z → Performing (asked_put n m x f sp ws z)
+    asked_door (Err p) a = stayed (λ z. omega (arith, z)) refl refl refl refl
+    asked_door (Ok r) a = needed_door r a (needed_on r ws) refl
 
     -- of an image whose spare is known
     pub known_door : Performing (perform_of s o ws n m x f)

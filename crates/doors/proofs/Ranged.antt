@@ -3,7 +3,7 @@
 use mathlib.Core.Path.{◌≡◌, refl, sym, ◌∙◌}
 use mathlib.Core.Bool.{Bool, cond}
 use mathlib.Core.List.{List}
-use mathlib.Core.Option.{Option, none, some}
+use Rattle.std.specs.Prelude.{Option, None, Some}
 use Prim.Native.Nat.{ℕ, ◌+◌, ◌<◌, ◌^◌}
 use native.Mathlib.Omega.{arith}
 use lib.Dec.{leb, ltb}
@@ -17,9 +17,10 @@ use Rattle.state.specs.declared.DefunctLock.{DefunctLock}
 use Rattle.state.specs.Locks.{has_id, has_id_d, normal}
 use Rattle.state.specs.Model.{Model, full}
 use Rattle.rules.specs.Rules.{sound}
-use Rattle.operations.specs.declared.answers.Answer.TheVariants as answer
-use Rattle.operations.specs.declared.answers.Renewal.{Renewal}
-use Rattle.operations.specs.declared.answers.Renewal.TheVariants as renewal
+use Rattle.std.specs.Prelude.{Result, Ok, Err, ⊤}
+use Rattle.operations.specs.declared.answers.Refusal.TheVariants.{RevisionOverflow}
+use Rattle.operations.specs.declared.answers.RenewalRefusal.{RenewalRefusal}
+use Rattle.operations.specs.declared.answers.RenewalRefusal.TheVariants as renewal
 use Rattle.operations.specs.Answers.{is_done, refuse_if}
 use Rattle.operations.specs.Defuncts.{remove_d, remove_all}
 use Rattle.operations.specs.Checks.{last_revision, at_last_lem, check_revision}
@@ -59,7 +60,7 @@ rises r h t = let z = eqb-false r last_revision t in omega (arith, h)
 
 may_rise : (r : ℕ) → Yes (is_done (check_revision r)) → No (at_last_lem r)
 unfolding check_revision is_done
-may_rise r t = (went_on (at_last_lem r) answer.RevisionOverflow answer.Done refl t).0
+may_rise r t = (went_on (at_last_lem r) (Err RevisionOverflow) (Ok tt) refl t).0
 
 shed_rises : (r : ℕ) → r < 2 ^ 64 → cond (at_last_lem r) r (r + 1) < 2 ^ 64
 shed_rises r h = cond_both (λ (n : ℕ). n < 2 ^ 64) r (r + 1) (at_last_lem r) (λ t. h) (λ t. rises r h t)
@@ -68,7 +69,7 @@ module _ (m : Model) (s : Yes (sound full m)) (g : Ranged m) where
   abbrev h : Held FitA FitD m
   h = g.held
 
-  insert_ranged : (x : ActiveLock) → FitA x → judge_insert full m x ≡ answer.Done → Ranged (inserted_in m x)
+  insert_ranged : (x : ActiveLock) → FitA x → judge_insert full m x ≡ Ok tt → Ranged (inserted_in m x)
   unfolding inserted_in judge_bundled
   insert_ranged x f e =
       let h1 = then_done _ _ (done_is _ (sym (judge_insert_lem full m x) ∙ e)) in
@@ -76,7 +77,7 @@ module _ (m : Model) (s : Yes (sound full m)) (g : Ranged m) where
       let h3 = then_done _ _ h2.1 in
       record { revision = rises m.revision g.revision (may_rise m.revision h3.0); held = insert_holds FitA FitD fit_nest fit_redirect m h x f }
 
-  vehicle_ranged : (x : ActiveLock) (ws : List ℕ) → FitA x → judge_vehicle full m x ws ≡ answer.Done → Ranged (vehicle_in m x ws)
+  vehicle_ranged : (x : ActiveLock) (ws : List ℕ) → FitA x → judge_vehicle full m x ws ≡ Ok tt → Ranged (vehicle_in m x ws)
   unfolding vehicle_in inserted_in judge_vehicle
   vehicle_ranged x ws f e =
       let h1 = then_done _ _ (done_is _ e) in
@@ -87,7 +88,7 @@ module _ (m : Model) (s : Yes (sound full m)) (g : Ranged m) where
       let h6 = then_done _ _ h5.1 in
       record { revision = rises m.revision g.revision (may_rise m.revision h6.0); held = vehicle_holds FitA FitD fit_nest fit_redirect m h x ws f }
 
-  replace_ranged : (ws : List ℕ) (x : ActiveLock) (by at : ℕ) → FitA x → by < 2 ^ 32 → at < 2 ^ 64 → judge_replace full m ws x by at ≡ answer.Done → Ranged (replaced_in m ws x by at)
+  replace_ranged : (ws : List ℕ) (x : ActiveLock) (by at : ℕ) → FitA x → by < 2 ^ 32 → at < 2 ^ 64 → judge_replace full m ws x by at ≡ Ok tt → Ranged (replaced_in m ws x by at)
   unfolding replaced_in
   replace_ranged ws x by at f hb ha e =
       let h1 = then_done _ _ (done_is _ (sym (judge_replace_lem full m ws x by at) ∙ e)) in
@@ -106,11 +107,11 @@ module _ (m : Model) (s : Yes (sound full m)) (g : Ranged m) where
 
   found_ranged : (i : LockId) (e now : ℕ) (has : Bool) (d : ℕ) → e < 2 ^ 64 → d < 2 ^ 32 → (o : Option ActiveLock) → Ranged (after_renewal (judge_found m i e now o) m (renewed_in m i e has d))
   unfolding refuse_if
-  found_ranged i e now has d he hd none = g
-  found_ranged i e now has d he hd (some a) =
-      cond_both (λ (r : Renewal). Ranged (after_renewal r m (renewed_in m i e has d))) renewal.LockExpired _ (leb a.expires now) (λ t. g) (λ t.
-      cond_both (λ (r : Renewal). Ranged (after_renewal r m (renewed_in m i e has d))) renewal.RenewalNotExtension _ (leb e a.expires) (λ u. g) (λ u.
-      cond_both (λ (r : Renewal). Ranged (after_renewal r m (renewed_in m i e has d))) renewal.RevisionOverflow renewal.Done (at_last_lem m.revision) (λ v. g)
+  found_ranged i e now has d he hd None = g
+  found_ranged i e now has d he hd (Some a) =
+      cond_both (λ (r : Result ⊤ RenewalRefusal). Ranged (after_renewal r m (renewed_in m i e has d))) (Err renewal.LockExpired) _ (leb a.expires now) (λ t. g) (λ t.
+      cond_both (λ (r : Result ⊤ RenewalRefusal). Ranged (after_renewal r m (renewed_in m i e has d))) (Err renewal.RenewalNotExtension) _ (leb e a.expires) (λ u. g) (λ u.
+      cond_both (λ (r : Result ⊤ RenewalRefusal). Ranged (after_renewal r m (renewed_in m i e has d))) (Err renewal.RevisionOverflow) (Ok tt) (at_last_lem m.revision) (λ v. g)
       (renewed_ranged i e has d he hd)))
 
   renew_ranged : (i : LockId) (e now : ℕ) (has : Bool) (d : ℕ) → e < 2 ^ 64 → d < 2 ^ 32 → Ranged (after_renewal (judge_renew m i e now) m (renewed_in m i e has d))
@@ -125,12 +126,12 @@ module _ (m : Model) (s : Yes (sound full m)) (g : Ranged m) where
   tree_ranged r = cond_both Ranged m (without_tree m r) (at_last_lem m.revision) (λ t. g) (without_ranged r)
 
   delete_ranged : (o : Option ActiveLock) → Ranged (after_delete m o)
-  delete_ranged none = g
-  delete_ranged (some r) = tree_ranged r
+  delete_ranged None = g
+  delete_ranged (Some r) = tree_ranged r
 
   expire_ranged : (now : ℕ) (o : Option ActiveLock) → Ranged (after_expiration now m o)
-  expire_ranged now none = g
-  expire_ranged now (some r) = cond_both Ranged m _ (ltb now r.expires) (λ t. g) (λ t. tree_ranged r)
+  expire_ranged now None = g
+  expire_ranged now (Some r) = cond_both Ranged m _ (ltb now r.expires) (λ t. g) (λ t. tree_ranged r)
 
   shed_ranged : (t : List DefunctLock) → ((d : DefunctLock) → Mem d t → FitD d) → Ranged (shed_in m t)
   unfolding shed_in

@@ -17,15 +17,14 @@ use Rattle.state.specs.declared.LockState.{LockState}
 use Rattle.state.specs.Locks.{blank_active, blank_defunct}
 use Rattle.state.specs.Model.{Model, model_of, state_of, full, fits}
 use Rattle.state.proofs.Laws.{model-of-state}
-use Rattle.rules.specs.declared.Verdict.TheVariants.{Sound}
+use Rattle.std.specs.Prelude.{Result, Option, Ok, Err, Some, None}
 use Rattle.rules.specs.Rules.{broken_rule}
 use Rattle.rules.proofs.Sound.{sound_of}
 use Rattle.records.specs.declared.bodies.Head.{Head}
-use Rattle.records.specs.declared.requests.Asked.{Asked}
-use Rattle.records.specs.declared.requests.Asked.TheVariants as asked
+use Rattle.records.specs.declared.requests.Request.{Request}
 use Rattle.records.specs.declared.frame.Frame.{Frame}
-use Rattle.records.specs.declared.frame.Framed.{Framed}
-use Rattle.records.specs.declared.frame.Framed.TheVariants as framed
+use Rattle.records.specs.declared.frame.Unread.{Unread}
+use Rattle.records.specs.declared.frame.Unread.TheVariants.{Torn, BadKind, BadField}
 use Rattle.records.specs.Numbers.{part}
 use Rattle.records.specs.Layouts.{Fit}
 use Rattle.records.specs.Codecs.{Codec}
@@ -42,9 +41,10 @@ use Rattle.promises.proofs.Every.{step_keeps}
 use Rattle.promises.proofs.Core.{stands_of}
 use Rattle.promises.proofs.Agree.{steps_agree}
 use Rattle.image.specs.declared.Spare.{Spare}
-use Rattle.image.specs.declared.Reading.TheVariants as reading
-use Rattle.image.specs.Image.{got, record_at, Listed, active_list, defunct_list, run_at, low_after, Held as ImageHeld, held_of, lists_at, held_by, held_in, read_on}
+use Rattle.image.specs.declared.ImageRefusal.TheVariants.{BadOrder}
+use Rattle.image.specs.Image.{record_at, Listed, active_list, defunct_list, run_at, low_after, Held as ImageHeld, held_of, lists_at, held_by, held_in, read_on}
 use Rattle.image.specs.Ranges.{InTypes}
+use Rattle.image.proofs.Stepping.{got_one}
 use Rattle.image.proofs.Halves.{taken, First, first, none, then_got, cond_got}
 use Rattle.image.proofs.Trips.{mem_take, accepted}
 use Rattle.feed.specs.declared.events.Step.{Step}
@@ -93,7 +93,7 @@ unfolding after
 after_small e = omega arith
 
 -- ---- an operation on a spare within the types
-module _ (sp : Spare) (r : InTypes sp) (e : broken_rule sp.state ≡ Sound) where
+module _ (sp : Spare) (r : InTypes sp) (e : broken_rule sp.state ≡ Ok tt) where
   pub direct_typed : (o : Op) → Brought o → (n : ℕ) → n < 2 ^ 32 → InTypes (record { state = directOn sp.state o; expected = n })
   direct_typed o f n h =
       let m : Model = model_of sp.state in
@@ -111,17 +111,17 @@ module _ (sp : Spare) (r : InTypes sp) (e : broken_rule sp.state ≡ Sound) wher
         (direct_typed (op_of x.request x.list) f (after sp.expected) (after_small sp.expected)))
         (λ v g. r)
 
-    asked_typed : (f : Frame) (a : Asked) → request_of f.kind (body_in s f) ≡ a → InTypes (taken_on sp s at (taken_asked at f a)).spare
-    asked_typed f (asked.Good q w) k =
+    asked_typed : (f : Frame) (a : Option (ℕ × Request)) → request_of f.kind (body_in s f) ≡ a → InTypes (taken_on sp s at (taken_asked at f a)).spare
+    asked_typed f (Some (q, w)) k =
         turn_typed f.next (numbered (record { sequence = q; request = w; frame = f }) (body_in s f))
         (request_brings (body_in s f) (bytes_part s f.start f.size y) q w (words_in (list_in w (body_in s f))) f.kind k)
-    asked_typed f asked.BadField k = r
+    asked_typed f None k = r
 
-    framed_typed : (f : Framed) → InTypes (taken_on sp s at (taken_framed s at f)).spare
-    framed_typed (framed.Torn x) = r
-    framed_typed (framed.BadKind x) = r
-    framed_typed (framed.BadField x) = r
-    framed_typed (framed.Record f) = asked_typed f (request_of f.kind (body_in s f)) refl
+    framed_typed : (f : Result Frame Unread) → InTypes (taken_on sp s at (taken_framed s at f)).spare
+    framed_typed (Err (Torn x)) = r
+    framed_typed (Err (BadKind x)) = r
+    framed_typed (Err (BadField x)) = r
+    framed_typed (Ok f) = asked_typed f (request_of f.kind (body_in s f)) refl
 
     pub step_typed : InTypes (step_on sp s at).spare
     unfolding taken_at
@@ -129,12 +129,12 @@ module _ (sp : Spare) (r : InTypes sp) (e : broken_rule sp.state ≡ Sound) wher
 
 -- ---- an accepted image
 module _ (s : List ℕ) (y : Bytes s) where
-  record_fit : {R : Type 0} (c : Codec R) → Lawful c → (due at next : ℕ) (x : R) → record_at c due s at ≡ got x next → Fit c.layout (c.numbers x)
+  record_fit : {R : Type 0} (c : Codec R) → Lawful c → (due at next : ℕ) (x : R) → record_at c due s at ≡ Ok (x, next) → Fit c.layout (c.numbers x)
   record_fit c w due at next x e =
       let t = taken c due s at x next e in
       subst (λ z. Fit c.layout (c.numbers z)) t.made (decoded_fit c w (part s t.frame.start t.frame.size) (bytes_part s t.frame.start t.frame.size y) (omega (arith, t.size)) t.right)
 
-  run_fit : {R : Type 0} (d : Listed R) → Lawful d.codec → (n low at : ℕ) (l : List R) (m : ℕ) → run_at d true s n low at ≡ got l m → (x : R) → Mem x l → Fit d.codec.layout (d.codec.numbers x)
+  run_fit : {R : Type 0} (d : Listed R) → Lawful d.codec → (n low at : ℕ) (l : List R) (m : ℕ) → run_at d true s n low at ≡ Ok (l, m) → (x : R) → Mem x l → Fit d.codec.layout (d.codec.numbers x)
   run_fit d w zero low at l m q x u = absurd (Memᴰ.not-nil (subst (Mem x) (none d true s low at l m q).0 u))
   run_fit d w (suc n) low at l m q x u =
       let f = first d true s n low at l m q in
@@ -148,16 +148,16 @@ module _ (s : List ℕ) (y : Bytes s) where
     pub ranged : Ranged x.model
     pub expected : x.expected < 2 ^ 32
 
-  held_typed : (x : ImageHeld) (end : ℕ) → held_in s ≡ got x end → ReadIn x
+  held_typed : (x : ImageHeld) (end : ℕ) → held_in s ≡ Ok (x, end) → ReadIn x
   unfolding held_by lists_at
   held_typed x end e =
       let w = then_got (record_at wire.head at_head s 0) (lists_at true s) x end e in
       let h : Head = w.0 in
       let v = then_got (run_at active_list true s h.actives 0 w.1) _ x end w.3 in
       let u = then_got (run_at defunct_list true s h.defuncts 0 v.1) _ x end v.3 in
-      let c = cond_got (ltb u.1 (length s)) (reading.BadOrder u.1) (got (held_of h v.0 u.0) u.1) x end u.3 in
+      let c = cond_got (ltb u.1 (length s)) (BadOrder u.1) (Ok (held_of h v.0 u.0, u.1)) x end u.3 in
       let f = record_fit wire.head head_lawful at_head 0 w.1 h w.2 in
-      subst ReadIn (told_one c.1).0
+      subst ReadIn (got_one c.1).0
       (record {
         ranged =
             record {
@@ -170,11 +170,8 @@ module _ (s : List ℕ) (y : Bytes s) where
             };
         expected = f.1.0;
       })
-    where
-      told_one : {a b : ImageHeld} {m n : ℕ} → got a m ≡ got b n → (a ≡ b) × (m ≡ n)
-      told_one q = (cc, cc)
 
-  pub accepted_typed : (sp : Spare) → read_on s ≡ record { told = reading.Done; spare = sp } → InTypes sp
+  pub accepted_typed : (sp : Spare) → read_on s ≡ record { told = Ok tt; spare = sp } → InTypes sp
   accepted_typed sp e =
       let a = accepted s sp e in
       let m : Model = a.held.model in

@@ -5,7 +5,7 @@ use Rattle.lists.specs.Papers.{Paper}
 use Rattle.promises.specs.Spots.{InConflict}
 use Rattle.image.specs.declared.Spare.{Spare}
 use Rattle.feed.specs.declared.taking.Placed.{Placed}
-use Rattle.feed.specs.declared.taking.Taken.TheVariants as taking
+use Rattle.std.specs.Prelude.{Ok}
 use Rattle.feed.specs.Feed.{numbered, body_in, taken_at}
 use Rattle.cablegorse.specs.declared.Told.{Told}
 use Rattle.cablegorse.specs.declared.Applied.{Applied}
@@ -15,7 +15,7 @@ use Rattle.doors.specs.Reads.{reads}
 -- the record at this place of the feed asks for what p refuses
 pub record ConflictAt (sp : Spare) (feed : List ℕ) (at : ℕ) (p : Paper) : Type 0 where
   pub placed : Placed
-  pub taken : taken_at feed at ≡ taking.Record placed
+  pub taken : taken_at feed at ≡ Ok placed
   pub refused : InConflict sp.state placed.request (numbered placed (body_in feed placed.frame)).list p
 
 -- the number and the values of an answer

@@ -12,7 +12,7 @@ use Rattle.feed.specs.Feed.{onward}
 use Rattle.takeover.specs.Feeding.{moved}
 use Rattle.takeover.specs.Ends.{picked, applied}
 use Rattle.cablegorse.specs.declared.Operation.{Operation}
-use Rattle.cablegorse.specs.declared.sending.Asked.TheVariants as asked
+use Rattle.std.specs.Prelude.{Ok}
 use Rattle.cablegorse.specs.Telling.{told_of, kept}
 use Rattle.cablegorse.specs.Changes.{image_bytes, Changed, changed, whole_put, apply_of}
 use Rattle.cablegorse.specs.Chunks.{Chunked}
@@ -55,7 +55,7 @@ changed_in c = changed c.told c.next c.removed c.expired
 -- "numbers its records in turn from its expected sequence, applies each operation it writes and nothing else": the request r of a
 -- spare's image under the number that is due
 pub record Sends (s : List ℕ) (o : Operation) (ws n m x f : List ℕ) (sp : Spare) (r : Request) (c : Performed) : Type 0 where
-  pub asked : asked_of o ≡ asked.Request r
+  pub asked : asked_of o ≡ Ok r
   pub sendable : Sendable sp.expected r ws
   pub bytes : record_in c ≡ request_bytes sp.expected r ws
   -- a spare of the same image that reads the record is left with the same bytes and told the same

@@ -6,10 +6,11 @@ use Rattle.lists.proofs.Tests.{cond_true, cond_false}
 use Rattle.image.specs.declared.Spare.{Spare}
 use Rattle.feed.specs.declared.events.Step.{Step}
 use Rattle.feed.specs.declared.following.Run.{Run}
-use Rattle.feed.specs.declared.following.Stop.{Stop}
-use Rattle.feed.specs.declared.following.Stop.TheVariants as stop
+use Rattle.std.specs.Prelude.{Result, Ok, Err, ⊤}
+use Rattle.calls.specs.declared.Outcome.{Outcome}
+use Rattle.feed.specs.declared.events.FeedRefusal.{FeedRefusal}
 use Rattle.feed.specs.Feed.{step_on, is_applied}
-use Rattle.feed.specs.Runs.{stops, run_on, fresh, passed, halted, follow_on}
+use Rattle.feed.specs.Runs.{stops, why, run_on, fresh, passed, halted, follow_on}
 use Rattle.feed.proofs.Running.{step_on_lem, run_stop, run_go, run_end}
 
 pub at_most_one : (b : Bool) → cond b 1 0 ≤ 1
@@ -18,7 +19,7 @@ at_most_one false = omega arith
 
 -- a run that has come so far
 abbrev pub reached : Spare → ℕ → ℕ → ℕ → Run
-reached sp at read applied = record { spare = sp; place = at; read = read; applied = applied; stop = stop.End }
+reached sp at read applied = record { spare = sp; place = at; read = read; applied = applied; stop = Ok tt }
 
 -- k steps are enough for the bytes that are left, and no more records were read than bytes
 pub record Left (start : Spare) (s : List ℕ) (sp : Spare) (at read applied : ℕ) : Type 0 where
@@ -105,9 +106,14 @@ follow_runs (suc k) r s = ended (follow_runs k (passed r (step_on r.spare s r.pl
     ended w false t = stopped w (leb-false (length s) r.place t) _ refl
 
 -- ---- a run that is told as ended is at the chunk's end: as many turns as there are bytes are enough
-abbrev pub is_end : Stop → Bool
-is_end stop.End = true
-is_end (stop.At e) = false
+abbrev pub is_end : Result ⊤ FeedRefusal → Bool
+is_end (Ok u) = true
+is_end (Err x) = false
+
+-- what stops a run isn't its end
+stopped_why : (e : Result Outcome FeedRefusal) → stops e ≡ true → is_end (why e) ≡ false
+stopped_why (Ok o) h = sym h
+stopped_why (Err x) h = refl
 
 pub ended_there : (k : ℕ) (r : Run) (s : List ℕ) → length s - r.place ≤ k → is_end (follow_on k r s).stop ≡ true → length s ≤ (follow_on k r s).place
 unfolding follow_on
@@ -120,5 +126,5 @@ ended_there (suc k) r s m e =
         → (r.place < length s → stops (step_on r.spare s r.place).told.event ≡ false → length s ≤ (follow_on k (passed r (step_on r.spare s r.place)) s).place)
         → length s ≤ (follow_on (suc k) r s).place
     go true t c u f = let h = leb-true (length s) r.place t in rw (follow_end r s (suc k) h) h
-    go false t true u f = let h = leb-false (length s) r.place t in absurd (true≢false (sym e ∙ ap (λ (x : Run). is_end x.stop) (follow_stop r s k h u)))
+    go false t true u f = let h = leb-false (length s) r.place t in absurd (true≢false (sym e ∙ ap (λ (x : Run). is_end x.stop) (follow_stop r s k h u) ∙ stopped_why (step_on r.spare s r.place).told.event u))
     go false t false u f = let h = leb-false (length s) r.place t in rw (follow_go r s k h u) (f h u)

@@ -1,15 +1,16 @@
 -- How a run over a feed goes on: a step that reads nothing keeps its place and ends it, any other moves it on. Assumes nothing.
 use Rattle.std.proofs.Common.{◌≡◌, ℕ, zero, suc, ◌<◌, ◌≤◌, true, false, ◌⊎◌, List, length, sym, refl, ap, inl, inr, ⊎_elim, arith}
 use Rattle.lists.proofs.Tests.{against, cond_true, cond_false}
-use Rattle.records.specs.declared.frame.Framed.{Framed}
-use Rattle.records.specs.declared.frame.Framed.TheVariants as framed
+use Rattle.std.specs.Prelude.{Result, Ok, Err}
+use Rattle.records.specs.declared.frame.Unread.{Unread}
+use Rattle.records.specs.declared.frame.Unread.TheVariants as U
+use Rattle.records.specs.declared.frame.Frame.{Frame}
 use Rattle.records.specs.Table.{in_feed}
 use Rattle.records.specs.Framing.{frame_at}
 use Rattle.records.proofs.Framing.{whole, under_four}
 use Rattle.image.specs.declared.Spare.{Spare}
 use Rattle.feed.specs.declared.events.Step.{Step}
-use Rattle.feed.specs.declared.taking.Taken.{Taken}
-use Rattle.feed.specs.declared.taking.Taken.TheVariants as taken
+use Rattle.feed.specs.declared.taking.Placed.{Placed}
 use Rattle.feed.specs.Feed.{numbered, body_in, taken_framed, taken_at, taken_on, step_on}
 use Rattle.feed.specs.Runs.{stops, run_on}
 use Rattle.feed.proofs.Stepping.{taken_frame}
@@ -19,14 +20,14 @@ module _ (sp : Spare) (s : List ℕ) (at : ℕ) where
   abbrev Moves : Step → Type 0
   Moves x = ((stops x.told.event ≡ true) × (x.told.next ≡ at)) ⊎ ((stops x.told.event ≡ false) × (at < x.told.next))
 
-  moves_taken : (t : Taken) → taken_at s at ≡ t → Moves (taken_on sp s at t)
-  moves_taken (taken.Torn x) e = inl (refl, refl)
-  moves_taken (taken.BadKind x) e = inl (refl, refl)
-  moves_taken (taken.BadField x) e = inl (refl, refl)
-  moves_taken (taken.Record p) e =
+  moves_taken : (t : Result Placed Unread) → taken_at s at ≡ t → Moves (taken_on sp s at t)
+  moves_taken (Err (U.Torn x)) e = inl (refl, refl)
+  moves_taken (Err (U.BadKind x)) e = inl (refl, refl)
+  moves_taken (Err (U.BadField x)) e = inl (refl, refl)
+  moves_taken (Ok p) e =
       let n = p.frame.next in
       let x = numbered p (body_in s p.frame) in
-      let w = whole s at in_feed p.frame (taken_frame s at (taken.Record p) e).0 in
+      let w = whole s at in_feed p.frame (taken_frame s at (Ok p) e).0 in
       inr (turn_goes sp n x, (let z = turn_next sp n x in omega (arith, w.ends)))
 
   step_moves : Moves (step_on sp s at)
@@ -48,8 +49,8 @@ module _ (sp : Spare) (s : List ℕ) (at : ℕ) where
   end_stops : length s ≤ at → stops (step_on sp s at).told.event ≡ true
   unfolding taken_at
   end_stops h =
-      let torn : framed.Torn at ≡ frame_at s at in_feed = under_four s at in_feed (omega arith) in
-      step_comes sp s at (λ (x : Step). stops x.told.event ≡ true) (λ n. refl) (λ e. ap (λ (f : Framed). stops (taken_on sp s at (taken_framed s at f)).told.event) (sym torn))
+      let torn : Err (U.Torn at) ≡ frame_at s at in_feed = under_four s at in_feed (omega arith) in
+      step_comes sp s at (λ (x : Step). stops x.told.event ≡ true) (λ n. refl) (λ e. ap (λ (f : Result Frame Unread). stops (taken_on sp s at (taken_framed s at f)).told.event) (sym torn))
 
   pub run_end : (k : ℕ) → length s ≤ at → run_on k sp s at ≡ sp
   unfolding run_on

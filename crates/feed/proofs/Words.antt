@@ -9,8 +9,7 @@ use Rattle.ids.specs.Words.{odd_words}
 use Rattle.state.proofs.Laws.{back}
 use Rattle.records.specs.declared.requests.Request.{Request}
 use Rattle.records.specs.declared.requests.Request.TheVariants.{Insert, InsertVehicle, Renew, Delete, BeginExpiration, Replace, Acknowledge, ExpireDefunct}
-use Rattle.records.specs.declared.requests.Asked.{Asked}
-use Rattle.records.specs.declared.requests.Asked.TheVariants as asked
+use Rattle.std.specs.Prelude.{Option, Some, None}
 use Rattle.records.specs.Numbers.{big}
 use Rattle.records.specs.Layouts.{total}
 use Rattle.records.specs.Codecs.{Codec, in_body, decode_by, counted, decode_counted, number}
@@ -46,17 +45,17 @@ even_ids k n b h =
 abbrev pub EvenIds : List ℕ → Request → Type 0
 EvenIds b r = No (odd_words (words_in (list_in r b)))
 
-abbrev pub EvenAsked : List ℕ → Asked → Type 0
-EvenAsked b (asked.Good q r) = EvenIds b r
-EvenAsked b asked.BadField = Unit {0}
+abbrev pub EvenAsked : List ℕ → Option (ℕ × Request) → Type 0
+EvenAsked b (Some (q, r)) = EvenIds b r
+EvenAsked b None = Unit {0}
 
-counted_even : {R : Type 0} (c : Codec R) (good : R → Asked) (b : List ℕ) → ((n : ℕ) → length b ≡ total (counted c).layout + n * 16 → (r : R) → EvenAsked b (good r)) → EvenAsked b (decode_counted c good asked.BadField b)
+counted_even : {R : Type 0} (c : Codec R) (good : R → Option (ℕ × Request)) (b : List ℕ) → ((n : ℕ) → length b ≡ total (counted c).layout + n * 16 → (r : R) → EvenAsked b (good r)) → EvenAsked b (decode_counted c good None b)
 counted_even c good b f =
-    cond_both (EvenAsked b) _ asked.BadField (eqb (length b) (total (counted c).layout + ((counted c).made (in_body (counted c) b)).1 * 16) and (counted c).right (in_body (counted c) b))
+    cond_both (EvenAsked b) _ None (eqb (length b) (total (counted c).layout + ((counted c).made (in_body (counted c) b)).1 * 16) and (counted c).right (in_body (counted c) b))
     (λ t. f _ (eqb-true _ _ (and_l _ _ t)) _) (λ t. tt)
 
-plain_even : {R : Type 0} (c : Codec R) (good : R → Asked) (b : List ℕ) → ((r : R) → EvenAsked b (good r)) → EvenAsked b (decode_by c good asked.BadField b)
-plain_even c good b f = cond_both (EvenAsked b) _ asked.BadField (eqb (length b) (total c.layout) and c.right (in_body c b)) (λ t. f _) (λ t. tt)
+plain_even : {R : Type 0} (c : Codec R) (good : R → Option (ℕ × Request)) (b : List ℕ) → ((r : R) → EvenAsked b (good r)) → EvenAsked b (decode_by c good None b)
+plain_even c good b f = cond_both (EvenAsked b) _ None (eqb (length b) (total c.layout) and c.right (in_body c b)) (λ t. f _) (λ t. tt)
 
 none_even : No (odd_words (words_in []))
 unfolding odd_words words_in non
@@ -74,5 +73,5 @@ asked_even k b =
     cond_both P _ _ (eqb k 22) (λ t. plain_even (numbered target) (takes Acknowledge) b (λ r. none_even)) (λ t.
     cond_both P _ _ (eqb k 23) (λ t. plain_even (numbered (number 8)) (takes ExpireDefunct) b (λ r. none_even)) (λ t. tt))))))))
   where
-    P : Asked → Type 0
+    P : Option (ℕ × Request) → Type 0
     P = EvenAsked b

@@ -9,11 +9,10 @@ use Rattle.state.specs.Locks.{blank_active}
 use Rattle.lookups.specs.Reads.{on_sound}
 use Rattle.lists.specs.Papers.{Paper, paper}
 use Rattle.records.specs.declared.frame.Frame.{Frame}
-use Rattle.records.specs.declared.frame.Framed.{Framed}
-use Rattle.records.specs.declared.frame.Framed.TheVariants as framed
+use Rattle.std.specs.Prelude.{Result, Option, Ok, Err, Some, None}
+use Rattle.records.specs.declared.frame.Unread.{Unread}
+use Rattle.records.specs.declared.frame.Unread.TheVariants as U
 use Rattle.records.specs.declared.requests.Request.{Request}
-use Rattle.records.specs.declared.requests.Asked.{Asked}
-use Rattle.records.specs.declared.requests.Asked.TheVariants as asked
 use Rattle.records.specs.Numbers.{part}
 use Rattle.records.specs.Table.{in_feed}
 use Rattle.records.specs.Framing.{frame_at}
@@ -21,13 +20,13 @@ use Rattle.records.specs.Feeds.{request_of, list_in, words_in}
 use Rattle.image.specs.declared.Spare.{Spare}
 use Rattle.calls.specs.declared.Performed.{Performed}
 use Rattle.calls.specs.Calls.{perform_on, outcome_paper}
-use Rattle.feed.specs.declared.events.Event.{Event}
-use Rattle.feed.specs.declared.events.Event.TheVariants as E
+use Rattle.feed.specs.declared.events.FeedRefusal.{FeedRefusal}
+use Rattle.feed.specs.declared.events.FeedRefusal.TheVariants.{UnsoundState, Torn, BadKind, BadField, Repeat, Ahead}
+use Rattle.feed.specs.Refusals.{unread}
+use Rattle.calls.specs.declared.Outcome.{Outcome}
 use Rattle.feed.specs.declared.events.Told.{Told}
 use Rattle.feed.specs.declared.events.Step.{Step}
 use Rattle.feed.specs.declared.taking.Placed.{Placed}
-use Rattle.feed.specs.declared.taking.Taken.{Taken}
-use Rattle.feed.specs.declared.taking.Taken.TheVariants as taken
 
 -- ---- numbers that go round
 -- "its sequence less the expected one, modulo 2^32"
@@ -40,21 +39,19 @@ after expected = (expected + 1) % 2 ^ 32
 
 -- ---- what can be read at a place: the record, or 17 to 19 with its start
 -- "count .. or field wrong, 19"
-abbrev pub taken_asked : ℕ → Frame → Asked → Taken
-taken_asked at f (asked.Good q r) = taken.Record (record { sequence = q; request = r; frame = f })
-taken_asked at f asked.BadField = taken.BadField at
+abbrev pub taken_asked : ℕ → Frame → Option (ℕ × Request) → Result Placed Unread
+taken_asked at f (Some (q, r)) = Ok (record { sequence = q; request = r; frame = f })
+taken_asked at f None = Err (U.BadField at)
 
 -- the body of a record, "as a part of the input"
 abbrev pub body_in : List ℕ → Frame → List ℕ
 body_in s f = part s f.start f.size
 
-abbrev pub taken_framed : List ℕ → ℕ → Framed → Taken
-taken_framed s at (framed.Torn x) = taken.Torn x
-taken_framed s at (framed.BadKind x) = taken.BadKind x
-taken_framed s at (framed.BadField x) = taken.BadField x
-taken_framed s at (framed.Record f) = taken_asked at f (request_of f.kind (body_in s f))
+abbrev pub taken_framed : List ℕ → ℕ → Result Frame Unread → Result Placed Unread
+taken_framed s at (Err u) = Err u
+taken_framed s at (Ok f) = taken_asked at f (request_of f.kind (body_in s f))
 
-unfoldable pub taken_at : List ℕ → ℕ → Taken
+unfoldable pub taken_at : List ℕ → ℕ → Result Placed Unread
 taken_at s at = taken_framed s at (frame_at s at in_feed)
 
 -- a record, places aside: its number, what is asked under it, and the ids that go with it
@@ -69,7 +66,7 @@ numbered p b = record { number = p.sequence; request = p.request; list = words_i
 
 -- ---- what a step tells: e happened at the record with the sequence q, and n is the next place
 -- nothing was removed
-abbrev pub plain : Event → ℕ → ℕ → Told
+abbrev pub plain : Result Outcome FeedRefusal → ℕ → ℕ → Told
 plain e q n =
     record {
       event = e;
@@ -82,7 +79,7 @@ plain e q n =
     }
 
 -- the spare stays as it is
-abbrev pub still : Spare → Event → ℕ → ℕ → Step
+abbrev pub still : Spare → Result Outcome FeedRefusal → ℕ → ℕ → Step
 still sp e q n = record { told = plain e q n; spare = sp }
 
 -- the spare after an operation: the state that it left, and the next number is due, "even if refused"
@@ -91,7 +88,7 @@ onward sp q n p =
     record {
       told =
           record {
-            event = E.Applied p.outcome;
+            event = Ok p.outcome;
             sequence = q;
             next = n;
             gone = p.gone;
@@ -111,45 +108,38 @@ act_on sp n x = onward sp x.number n (perform_on sp.state x.request x.list)
 unfoldable pub turn_on : Spare → ℕ → Numbered → Step
 turn_on sp n x =
     cond (distance x.number sp.expected == 0) (act_on sp n x)
-    (cond (nat_le (distance x.number sp.expected) 2147483647) (still sp (E.Ahead sp.expected) x.number n)
-    (still sp (E.Repeat sp.expected) x.number n))
+    (cond (nat_le (distance x.number sp.expected) 2147483647) (still sp (Err (Ahead sp.expected)) x.number n)
+    (still sp (Err (Repeat sp.expected)) x.number n))
 
-abbrev pub taken_on : Spare → List ℕ → ℕ → Taken → Step
-taken_on sp s at (taken.Torn x) = still sp (E.Torn x) 0 at
-taken_on sp s at (taken.BadKind x) = still sp (E.BadKind x) 0 at
-taken_on sp s at (taken.BadField x) = still sp (E.BadField x) 0 at
-taken_on sp s at (taken.Record p) = turn_on sp p.frame.next (numbered p (body_in s p.frame))
+abbrev pub taken_on : Spare → List ℕ → ℕ → Result Placed Unread → Step
+taken_on sp s at (Err u) = still sp (Err (unread u)) 0 at
+taken_on sp s at (Ok p) = turn_on sp p.frame.next (numbered p (body_in s p.frame))
 
 -- 12, 17 to 19, then 15, 16 or the operation
 unfoldable pub step_on : Spare → List ℕ → ℕ → Step
-step_on sp s at = on_sound sp.state (λ n. still sp (E.UnsoundState n) 0 at) (taken_on sp s at (taken_at s at))
+step_on sp s at = on_sound sp.state (λ n. still sp (Err (UnsoundState n)) 0 at) (taken_on sp s at (taken_at s at))
 
 -- ---- an event: document 01's number and the values beside it
-unfoldable pub event_paper : Event → Paper
-event_paper (E.UnsoundState n) = paper 12 (n ∷ [])
-event_paper (E.Torn at) = paper 17 (at ∷ [])
-event_paper (E.BadKind at) = paper 18 (at ∷ [])
-event_paper (E.BadField at) = paper 19 (at ∷ [])
-event_paper (E.Repeat expected) = paper 15 (expected ∷ [])
-event_paper (E.Ahead expected) = paper 16 (expected ∷ [])
-event_paper (E.Applied o) = outcome_paper o
+unfoldable pub event_paper : Result Outcome FeedRefusal → Paper
+event_paper (Err (UnsoundState n)) = paper 12 (n ∷ [])
+event_paper (Err (Torn at)) = paper 17 (at ∷ [])
+event_paper (Err (BadKind at)) = paper 18 (at ∷ [])
+event_paper (Err (BadField at)) = paper 19 (at ∷ [])
+event_paper (Err (Repeat expected)) = paper 15 (expected ∷ [])
+event_paper (Err (Ahead expected)) = paper 16 (expected ∷ [])
+event_paper (Ok o) = outcome_paper o
 
 -- the record reached its operation
-unfoldable pub is_applied : Event → Bool
-is_applied (E.UnsoundState n) = false
-is_applied (E.Torn at) = false
-is_applied (E.BadKind at) = false
-is_applied (E.BadField at) = false
-is_applied (E.Repeat e) = false
-is_applied (E.Ahead e) = false
-is_applied (E.Applied o) = true
+unfoldable pub is_applied : Result Outcome FeedRefusal → Bool
+is_applied (Err x) = false
+is_applied (Ok o) = true
 
 -- the spare's state is unsound
-unfoldable pub is_unsound : Event → Bool
-is_unsound (E.UnsoundState n) = true
-is_unsound (E.Torn at) = false
-is_unsound (E.BadKind at) = false
-is_unsound (E.BadField at) = false
-is_unsound (E.Repeat e) = false
-is_unsound (E.Ahead e) = false
-is_unsound (E.Applied o) = false
+unfoldable pub is_unsound : Result Outcome FeedRefusal → Bool
+is_unsound (Err (UnsoundState n)) = true
+is_unsound (Err (Torn at)) = false
+is_unsound (Err (BadKind at)) = false
+is_unsound (Err (BadField at)) = false
+is_unsound (Err (Repeat e)) = false
+is_unsound (Err (Ahead e)) = false
+is_unsound (Ok o) = false

@@ -1,3 +1,4 @@
+pub mod Refusals
 pub mod Feed
 pub mod Runs
 pub mod Code

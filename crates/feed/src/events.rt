@@ -2,31 +2,58 @@
 // SPDX-License-Identifier: Apache-2.0
 ghost use Rattle.std.specs.Prelude.{◌≡◌};
 ghost use Rattle.feed.specs.Feed.{plain, still, onward, is_applied, is_unsound};
+ghost use Rattle.feed.specs.Refusals.{unread, unsound};
 ghost use Rattle.feed.specs.Runs.{stops};
 
 use crate::turns;
 use calls::{Outcome, Performed};
 use ids::LockId;
 use image::Spare;
+use records::frame::Unread;
+use rules::Unsound;
 use state::{ActiveLock, LockState};
 
-// All but the last leave the spare as it is: 12, 17 to 19 with the record's offset, 15 and 16 with the expected number.
-#[derive(Clone, Copy)]
-pub enum Event {
+// Why a record isn't applied; the spare stays as it is. UnsoundState (12) holds the rule, 17 to 19 the record's offset,
+// Repeat and Ahead (15, 16) the expected number.
+#[derive(Clone, Copy, PartialEq, Eq)]
+pub enum FeedRefusal {
     UnsoundState(u8),
     Torn(usize),
     BadKind(usize),
     BadField(usize),
     Repeat(u32),
     Ahead(u32),
-    Applied(Outcome),
 }
 
+impl From<Unread> for FeedRefusal {
+    ghost from_gives = { λ u r. r ≡ unread u };
+
+    fn from(u: Unread) -> FeedRefusal {
+        match u {
+            Unread::Torn(at) => FeedRefusal::Torn(at),
+            Unread::BadKind(at) => FeedRefusal::BadKind(at),
+            Unread::BadField(at) => FeedRefusal::BadField(at),
+        }
+    }
+}
+
+impl From<Unsound> for FeedRefusal {
+    ghost from_gives = { λ u r. r ≡ unsound u };
+
+    fn from(u: Unsound) -> FeedRefusal {
+        match u {
+            Unsound::Rule(n) => FeedRefusal::UnsoundState(n),
+        }
+    }
+}
+
+// event: what the operation answered, refused by its own numbers or not, where the record reached it.
 // sequence: the record's, 0 where none was read. next: the place after the record; after 12 and 17 to 19 the place itself.
-// The removed locks stand in the first gone places, the ids of the defunct entries that expired in the first lapsed.
+// The removed locks stand in the first gone places, the ids of the defunct entries that expired in the first lapsed: arrays with
+// counts, since there is no heap and what is handed out by value has nothing to lend a slice of.
 #[derive(Clone, Copy)]
 pub struct Told {
-    pub event: Event,
+    pub event: Result<Outcome, FeedRefusal>,
     pub sequence: u32,
     pub next: usize,
     pub gone: usize,
@@ -42,7 +69,7 @@ pub struct Step {
 }
 
 // Nothing was removed.
-fn plain(event: Event, sequence: u32, next: usize) -> Told
+fn plain(event: Result<Outcome, FeedRefusal>, sequence: u32, next: usize) -> Told
     ensures { result ≡ plain event sequence next }
 {
     let b = state::blank_active();
@@ -58,7 +85,12 @@ fn plain(event: Event, sequence: u32, next: usize) -> Told
 }
 
 // The spare stays as it is.
-pub(crate) fn still(spare: Spare, event: Event, sequence: u32, next: usize) -> Step
+pub(crate) fn still(
+    spare: Spare,
+    event: Result<Outcome, FeedRefusal>,
+    sequence: u32,
+    next: usize,
+) -> Step
     ensures { result ≡ still spare event sequence next }
 {
     Step {
@@ -77,7 +109,7 @@ pub(crate) fn onward(spare: Spare, sequence: u32, next: usize, done: Performed) 
     let state = done.state;
     Step {
         told: Told {
-            event: Event::Applied(outcome),
+            event: Ok(outcome),
             sequence,
             next,
             gone: done.gone,
@@ -93,38 +125,32 @@ pub(crate) fn onward(spare: Spare, sequence: u32, next: usize, done: Performed) 
 }
 
 // Whether the record reached its operation.
-pub fn is_applied(event: Event) -> bool
+#[tactic(auto, unfolding(crate::specs::Feed::is_applied))]
+pub fn is_applied(event: Result<Outcome, FeedRefusal>) -> bool
     ensures { result ≡ is_applied event }
 {
-    if let Event::Applied(_) = event {
-        true
-    } else {
-        false
-    }
+    event.is_ok()
 }
 
 // Whether the spare's state is unsound: 12.
-pub fn is_unsound(event: Event) -> bool
+#[tactic(auto, unfolding(crate::specs::Feed::is_unsound))]
+pub fn is_unsound(event: Result<Outcome, FeedRefusal>) -> bool
     ensures { result ≡ is_unsound event }
 {
-    if let Event::UnsoundState(_) = event {
-        true
-    } else {
-        false
+    match event {
+        Err(FeedRefusal::UnsoundState(_)) => true,
+        _ => false,
     }
 }
 
 // Whether no record could be read: 12, 17 to 19.
-pub fn stops(event: Event) -> bool
+pub fn stops(event: Result<Outcome, FeedRefusal>) -> bool
     ensures { result ≡ stops event }
 {
     match event {
-        Event::UnsoundState(_) => true,
-        Event::Torn(_) => true,
-        Event::BadKind(_) => true,
-        Event::BadField(_) => true,
-        Event::Repeat(_) => false,
-        Event::Ahead(_) => false,
-        Event::Applied(_) => false,
+        Err(FeedRefusal::Repeat(_)) => false,
+        Err(FeedRefusal::Ahead(_)) => false,
+        Err(_) => true,
+        Ok(_) => false,
     }
 }

@@ -2,33 +2,35 @@
 // SPDX-License-Identifier: Apache-2.0
 ghost use Rattle.std.specs.Prelude.{◌≡◌, length, if◌then◌else◌};
 ghost use Rattle.feed.specs.Feed.{is_applied};
-ghost use Rattle.feed.specs.Runs.{fresh, follow_on};
+ghost use Rattle.feed.specs.Runs.{why, fresh, follow_on};
 
 use crate::events;
-use crate::events::Event;
+use crate::events::FeedRefusal;
+use calls::Outcome;
 use image::Spare;
 
-// Why a run ended: at the end of the chunk, or where no record could be read (12, 17 to 19).
-#[derive(Clone, Copy)]
-pub enum Stop {
-    End,
-    At(Event),
-}
-
-// The spare after the last record that was read, the place after it, how many were read and how many of them applied.
+// The spare after the last record that was read, the place after it, how many were read and how many of them applied. stop:
+// the end of the chunk, or why no record could be read at the place (12, 17 to 19).
 #[derive(Clone, Copy)]
 pub struct Run {
     pub spare: Spare,
     pub place: usize,
     pub read: usize,
     pub applied: usize,
-    pub stop: Stop,
+    pub stop: Result<(), FeedRefusal>,
 }
 
-fn one_if_applied(event: Event) -> usize
+// Why a run ends at an event by which no record was read.
+fn why(event: Result<Outcome, FeedRefusal>) -> Result<(), FeedRefusal>
+    ensures { result ≡ why event }
+{
+    event.map(|_| ())
+}
+
+fn one_if_applied(event: Result<Outcome, FeedRefusal>) -> usize
     ensures { result ≡ (if is_applied event then 1 else 0) }
 {
-    if events::is_applied(event) { 1 } else { 0 }
+    events::is_applied(event) as usize
 }
 
 // Records out of turn are read and passed over; one that can't be read ends the run.
@@ -39,6 +41,7 @@ pub fn follow(start: Spare, chunk: &[u8]) -> Run
     let mut place: usize = 0;
     let mut read: usize = 0;
     let mut applied: usize = 0;
+    // a record at a time, each as long as it says
     while place < chunk.len() {
         let s = crate::step(spare, chunk, place);
         let told = s.told;
@@ -49,7 +52,7 @@ pub fn follow(start: Spare, chunk: &[u8]) -> Run
                 place,
                 read,
                 applied,
-                stop: Stop::At(event),
+                stop: why(event),
             };
         }
         spare = s.spare;
@@ -62,6 +65,6 @@ pub fn follow(start: Spare, chunk: &[u8]) -> Run
         place,
         read,
         applied,
-        stop: Stop::End,
+        stop: Ok(()),
     }
 }

@@ -8,31 +8,35 @@ pub mod numbers;
 pub mod taking;
 pub mod turns;
 
-ghost use Rattle.std.specs.Prelude.{◌≡◌, if◌then◌else◌, nat_le};
+ghost use Rattle.std.specs.Prelude.{◌≡◌, Err, if◌then◌else◌, nat_le};
 ghost use Rattle.calls.specs.Calls.{perform_on};
-ghost use Rattle.feed.specs.declared.events.Event.TheVariants as E;
+ghost use Rattle.feed.specs.declared.events.FeedRefusal.TheVariants.{Repeat, Ahead};
 ghost use Rattle.feed.specs.Feed.{numbered, still, onward, step_on};
 ghost use Rattle.feed.specs.Code.{tested_first};
 
-use calls::Performed;
-use events::{Event, Step};
+use calls::{Outcome, Performed};
+use events::{FeedRefusal, Step};
 use image::Spare;
 use records::requests;
-use rules::Verdict;
 use state::LockState;
-use taking::{Placed, Taken};
+use taking::Placed;
 
-// 12, by which every operation refuses an unsound state.
+// 12, by which every operation refuses an unsound state. A number and no match: the eight kinds of answer meet in it alone, and
+// a match would name the UnsoundState of each.
 const UNSOUND: u64 = 12;
 
 // No operation is reached: the spare stays as it is, and the state is tested here.
-fn wait(spare: Spare, event: Event, sequence: u32, next: usize, at: usize) -> Step
+fn wait(
+    spare: Spare,
+    event: Result<Outcome, FeedRefusal>,
+    sequence: u32,
+    next: usize,
+    at: usize,
+) -> Step
     ensures { result ≡ tested_first spare at (still spare event sequence next) }
 {
-    let state = spare.state;
-    let v = rules::broken(state);
-    if let Verdict::Broken(n) = v {
-        return events::still(spare, Event::UnsoundState(n), 0, at);
+    if let Err(why) = rules::broken(spare.state) {
+        return events::still(spare, Err(FeedRefusal::from(why)), 0, at);
     }
     events::still(spare, event, sequence, next)
 }
@@ -48,26 +52,25 @@ fn performed(state: LockState, placed: Placed, body: &[u8]) -> Performed
     calls::perform(state, request, &words[0..n])
 }
 
-// An operation that refused by 12: the rule is looked for again, apart, so that no record pays for it.
+// An operation that refused by 12: the rule is looked for again, apart, so that no record pays for it. Not one function with
+// `wait`: they differ in the step that follows the test, and a closure for it would ask this contract to speak of its post.
 fn refused(spare: Spare, sequence: u32, next: usize, done: Performed, at: usize) -> Step
     ensures { result ≡ tested_first spare at (onward spare sequence next done) }
 {
-    let state = spare.state;
-    let v = rules::broken(state);
-    if let Verdict::Broken(rule) = v {
-        return events::still(spare, Event::UnsoundState(rule), 0, at);
+    if let Err(why) = rules::broken(spare.state) {
+        return events::still(spare, Err(FeedRefusal::from(why)), 0, at);
     }
     events::onward(spare, sequence, next, done)
 }
 
 // Half of the numbers lie ahead of the expected one, the others behind it.
-fn out_of_turn(far: u32, expected: u32) -> Event
-    ensures { result ≡ (if nat_le far 2147483647 then E.Ahead expected else E.Repeat expected) }
+fn out_of_turn(far: u32, expected: u32) -> Result<Outcome, FeedRefusal>
+    ensures { result ≡ (if nat_le far 2147483647 then Err (Ahead expected) else Err (Repeat expected)) }
 {
     if far <= 2147483647 {
-        return Event::Ahead(expected);
+        return Err(FeedRefusal::Ahead(expected));
     }
-    Event::Repeat(expected)
+    Err(FeedRefusal::Repeat(expected))
 }
 
 // The record is read first. The state is tested once: by the operation that is reached, or where none is. One function, since
@@ -76,10 +79,8 @@ pub fn step(spare: Spare, feed: &[u8], at: usize) -> Step
     ensures { result ≡ step_on spare feed.now at }
 {
     match taking::taken_at(feed, at) {
-        Taken::Torn(x) => wait(spare, Event::Torn(x), 0, at, at),
-        Taken::BadKind(x) => wait(spare, Event::BadKind(x), 0, at, at),
-        Taken::BadField(x) => wait(spare, Event::BadField(x), 0, at, at),
-        Taken::Record(placed) => {
+        Err(why) => wait(spare, Err(FeedRefusal::from(why)), 0, at, at),
+        Ok(placed) => {
             let frame = placed.frame;
             let sequence = placed.sequence;
             let far = turns::distance(sequence, spare.expected);

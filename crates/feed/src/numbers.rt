@@ -3,18 +3,20 @@
 ghost use Rattle.std.specs.Prelude.{◌≡◌};
 ghost use Rattle.feed.specs.Feed.{event_paper};
 
-use crate::events::Event;
+use crate::events::FeedRefusal;
+use calls::Outcome;
 
-pub fn number(e: Event) -> u64
+#[tactic(auto, unfolding(crate::specs::Feed::event_paper))]
+pub fn number(e: Result<Outcome, FeedRefusal>) -> u64
     ensures { result ≡ (event_paper e).number }
 {
     match e {
-        Event::UnsoundState(_) => 12,
-        Event::Torn(_) => 17,
-        Event::BadKind(_) => 18,
-        Event::BadField(_) => 19,
-        Event::Repeat(_) => 15,
-        Event::Ahead(_) => 16,
-        Event::Applied(outcome) => calls::number(outcome),
+        Err(FeedRefusal::UnsoundState(_)) => 12,
+        Err(FeedRefusal::Torn(_)) => 17,
+        Err(FeedRefusal::BadKind(_)) => 18,
+        Err(FeedRefusal::BadField(_)) => 19,
+        Err(FeedRefusal::Repeat(_)) => 15,
+        Err(FeedRefusal::Ahead(_)) => 16,
+        Ok(outcome) => calls::number(outcome),
     }
 }

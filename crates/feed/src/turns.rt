@@ -4,15 +4,17 @@ ghost use Rattle.std.specs.Prelude.{◌≡◌};
 ghost use Rattle.feed.specs.Feed.{distance, after};
 
 // How far a sequence number lies ahead of the expected one.
+#[tactic(auto, unfolding(crate::specs::Feed::distance))]
 pub fn distance(sequence: u32, expected: u32) -> u32
     ensures { result ≡ distance sequence expected }
 {
-    std::num::wrapping_sub_u32(sequence, expected)
+    sequence.wrapping_sub(expected)
 }
 
 // The number that is due after this one.
+#[tactic(auto, unfolding(crate::specs::Feed::after))]
 pub fn after(expected: u32) -> u32
     ensures { result ≡ after expected }
 {
-    std::num::wrapping_add_u32(expected, 1)
+    expected.wrapping_add(1)
 }

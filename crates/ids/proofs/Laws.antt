@@ -1,8 +1,11 @@
 -- The order of ids: compared word by word it is the order of one number, and it is a strict total order.
 -- Assumes nothing.
-use mathlib.Core.Path.{◌≡◌, refl, sym}
+use mathlib.Core.Path.{◌≡◌, refl, sym, ◌∙◌}
 use mathlib.Core.Logic.{inl, inr}
-use mathlib.Core.Bool.{true, false, ◌&&◌, ◌||◌}
+use mathlib.Core.Bool.{Bool, true, false, cond, ◌&&◌, ◌||◌}
+use Rattle.std.specs.Prelude.{Some}
+use Rattle.std.proofs.Common.{Less, Equal, Greater}
+use Rattle.std.specs.Ordering.{is_lt, is_some_and, nat_cmp, partial_lt, partial_ordering_then}
 use Prim.Native.Nat.{◌^◌, ◌<◌}
 use native.Mathlib.Omega.{arith}
 use borrow.Author.Tests.{ltb-true, ltb-false, eqb-true, lt-ltb, le-ltb, eq-eqb}
@@ -42,6 +45,20 @@ module _ (a b : LockId) (ha : a.lo < 2 ^ 64) (hb : b.lo < 2 ^ 64) where
         | inl u ↦ omega (arith, ltb-true a.hi b.hi u)
         | inr u ↦ omega (arith, eqb-true a.hi b.hi (and_l (eqb a.hi b.hi) (ltb a.lo b.lo) u), ltb-true a.lo b.lo (and_r (eqb a.hi b.hi) (ltb a.lo b.lo) u))
       ])
+
+  -- the derived `==` and `<`, which go by the fields in their order
+  pub lt_before : partial_lt (λ (x y : LockId). partial_ordering_then (Some (nat_cmp x.hi y.hi)) (Some (nat_cmp x.lo y.lo))) a b ≡ before_id a b
+  lt_before = go (ltb a.hi b.hi) (eqb a.hi b.hi) ∙ less_words
+    where
+      go : (h e : Bool) → is_some_and is_lt (partial_ordering_then (Some (cond h Less (cond e Equal Greater))) (Some (nat_cmp a.lo b.lo))) ≡ (h || (e && ltb a.lo b.lo))
+      go true e = refl
+      go false false = refl
+      go false true = lo (ltb a.lo b.lo) (eqb a.lo b.lo)
+        where
+          lo : (l e : Bool) → is_lt (cond l Less (cond e Equal Greater)) ≡ l
+          lo true e = refl
+          lo false true = refl
+          lo false false = refl
 
   -- one number, one id
   pub key_one : key a ≡ key b → a ≡ b

@@ -1,18 +1,17 @@
--- An id list, two words an id, read from a place on: membership, and the lowest id that a test picks.
+-- An id list, two words an id, read from a place on: the lowest id that a test picks.
 -- Assumes nothing.
 use mathlib.Core.Bool.{Bool, true, false, cond, not, ◌||◌, true≢false}
 use mathlib.Core.List.{List, [], ◌∷◌}
-use mathlib.Core.Option.{Option, none, some}
+use Rattle.std.specs.Prelude.{Option, None, Some}
 use mathlib.Core.Path.{◌≡◌, refl, sym, ap, ◌∙◌}
 use Prim.Native.Nat.{ℕ, suc, ◌+◌, ◌-◌, ◌<◌}
 use native.Mathlib.Omega.{arith}
 use lib.ListN.{length, get_or, drop, length-drop}
 use lib.Seq.{drop-cons}
-use Rattle.lists.specs.Lists.{any, filter}
-use Rattle.lists.proofs.Tests.{or_t, or_f}
+use Rattle.lists.specs.Lists.{filter}
 use Rattle.ids.specs.declared.LockId.{LockId}
-use Rattle.ids.specs.Order.{same_id, before_id}
-use Rattle.ids.specs.Words.{ids_of, listed_in}
+use Rattle.ids.specs.Order.{before_id}
+use Rattle.ids.specs.Words.{ids_of}
 
 abbrev pub id_at : List ℕ → ℕ → LockId
 id_at ws j = record { hi = get_or ws j 0; lo = get_or ws (j + 1) 0 }
@@ -33,30 +32,18 @@ no_id_lem ws j h = short (drop j ws) (omega (arith, length-drop j ws))
     short (x ∷ []) k = refl
     short (x ∷ (y ∷ l)) k = absurd (omega arith)
 
--- ---- membership
-module _ (ws : List ℕ) (i : LockId) (j : ℕ) (q : any (same_id i) (ids_of (drop j ws)) ≡ listed_in ws i) where
-  module _ (h : j + 1 < length ws) (t : Bool) (e : t ≡ same_id i (id_at ws j)) where
-    pub word_yes : t ≡ true → true ≡ listed_in ws i
-    word_yes g = sym (rw (one_id ws j h) (or_t _ _ (sym e ∙ g))) ∙ q
-
-    pub word_no : t ≡ false → any (same_id i) (ids_of (drop (j + 2) ws)) ≡ listed_in ws i
-    word_no g = sym (rw (one_id ws j h) (or_f _ _ (sym e ∙ g))) ∙ q
-
-  pub word_end : length ws - j < 2 → false ≡ listed_in ws i
-  word_end h = sym (ap (any (same_id i)) (no_id_lem ws j h)) ∙ q
-
 -- ---- the lowest id that the test p picks: a loop that keeps the best so far
 abbrev pub lower : Option LockId → LockId → Option LockId
-lower none i = some i
-lower (some b) i = cond (before_id i b) (some i) (some b)
+lower None i = Some i
+lower (Some b) i = cond (before_id i b) (Some i) (Some b)
 
 abbrev pub lowest_of : Option LockId → List LockId → Option LockId
 lowest_of b [] = b
 lowest_of b (i ∷ is) = lowest_of (lower b i) is
 
 abbrev pub best_of : Bool → LockId → Option LockId
-best_of true b = some b
-best_of false b = none
+best_of true b = Some b
+best_of false b = None
 
 module _ (p : LockId → Bool) (ws : List ℕ) where
   -- the search goes on from word j
@@ -64,7 +51,7 @@ module _ (p : LockId → Bool) (ws : List ℕ) where
   on_from f b j = lowest_of (best_of f b) (filter p (ids_of (drop j ws)))
 
   abbrev pub lowest_where : Option LockId
-  lowest_where = lowest_of none (filter p (ids_of ws))
+  lowest_where = lowest_of None (filter p (ids_of ws))
 
   module _ (f : Bool) (b : LockId) (j : ℕ) where
     module _ (h : j + 1 < length ws) where

@@ -7,22 +7,24 @@ ghost use Rattle.ids.specs.Order.{same_id, before_id};
 ghost use Rattle.ids.specs.Words.{odd_words, listed_in};
 
 // The first eight bytes are hi, the last eight lo, each big-endian.
-#[derive(Clone, Copy)]
+#[derive(Clone, Copy, PartialEq, Eq, PartialOrd, Ord)]
 pub struct LockId {
     pub hi: u64,
     pub lo: u64,
 }
 
+// By number (same_id, before_id are of the sixteen bytes as one number), which the derived `==` and `<` are: a contract by
+// them would ask each caller for the words' bounds, so the two stay.
 pub fn same(a: LockId, b: LockId) -> bool
     ensures { result ≡ same_id a b }
 {
-    (a.hi == b.hi) & (a.lo == b.lo)
+    a == b
 }
 
 pub fn less(a: LockId, b: LockId) -> bool
     ensures { result ≡ before_id a b }
 {
-    (a.hi < b.hi) | ((a.hi == b.hi) & (a.lo < b.lo))
+    a < b
 }
 
 // An id list has two words an id: an odd number is refused (14).
@@ -36,15 +38,12 @@ pub fn is_odd(list: &[u64]) -> bool
 pub fn listed(list: &[u64], id: LockId) -> bool
     ensures { result ≡ listed_in list.now id }
 {
-    let n = list.len();
-    let mut j: usize = 0;
-    while 1 < n - j {
-        let h = list[j];
-        let l = list[j + 1];
-        j += 2;
-        if same(id, LockId { hi: h, lo: l }) {
+    let mut rest = list;
+    while let [hi, lo, next @ ..] = rest {
+        if same(id, LockId { hi: *hi, lo: *lo }) {
             return true;
         }
+        rest = next;
     }
     false
 }

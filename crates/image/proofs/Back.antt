@@ -26,8 +26,10 @@ use Rattle.records.proofs.Numbers.{Bytes, bytes_part, length_part, part_add}
 use Rattle.records.proofs.Codecs.{is_good, round_trips}
 use Rattle.records.proofs.Table.{rule}
 use Rattle.records.proofs.Framing.{whole, record_part}
-use Rattle.image.specs.declared.Reading.TheVariants.{BadField, BadOrder}
-use Rattle.image.specs.Image.{stopped, got, record_at, Listed, active_list, defunct_list, low_after, run_at, Held, held_of, lists_at, held_by, bytes_of_run, head_of, image_of}
+use Rattle.std.specs.Prelude.{Ok, Err}
+use Rattle.image.specs.declared.ImageRefusal.TheVariants.{BadField, BadOrder}
+use Rattle.image.specs.Image.{Got, record_at, Listed, active_list, defunct_list, low_after, run_at, Held, held_of, lists_at, held_by, bytes_of_run, head_of, image_of}
+use Rattle.image.proofs.Stepping.{got_one}
 use Rattle.image.proofs.Halves.{taken, first, none, run_length, then_got, cond_got}
 use Rattle.image.proofs.Writes.{Plain, head_plain, active_plain, defunct_plain}
 
@@ -46,7 +48,7 @@ module _ {R : Type 0} {k due : ℕ} (c : Codec R) (p : Plain k due c) (alone : Y
     pub after : next ≡ at + (total c.layout + 4)
     pub within : next ≤ length s
 
-  pub record_back : (at next : ℕ) (r : R) → record_at c due s at ≡ got r next → Stood at next r
+  pub record_back : (at next : ℕ) (r : R) → record_at c due s at ≡ Ok (r, next) → Stood at next r
   record_back at next r e =
       let t = taken c due s at r next e in
       let f = t.frame in
@@ -55,9 +57,9 @@ module _ {R : Type 0} {k due : ℕ} (c : Codec R) (p : Plain k due c) (alone : Y
       let u = rule f.kind w.row w.known in
       let kind : f.kind ≡ k = sym u.number ∙ eqb-true w.row.kind k (imp_e (eqb w.row.place due) (eqb w.row.kind k) (all→ _ alone u.listed) (eq-eqb _ _ w.place)) in
       let size : f.size ≡ total c.layout = sym (length_part s f.start f.size (omega (arith, w.starts, w.within))) ∙ t.size in
-      let good : decode_by c (λ (x : R). got x next) (stopped (BadField at)) b ≡ got r next = sym (is_good c (λ (x : R). got x next) (stopped (BadField at)) b r t.size t.right (sym t.made)) in
+      let good : ◌≡◌ {A = Got R} (decode_by c (λ (x : R). Ok (x, next)) (Err (BadField at)) b) (Ok (r, next)) = sym (is_good c (λ (x : R). Ok (x, next)) (Err (BadField at)) b r t.size t.right (sym t.made)) in
       let body : encode_by c r ≡ b =
-      ((round_trips c (λ (x : R). got x next) (stopped (BadField at)) p.lawful record { one = λ x y q. cc; never = λ x q. let z : ◌≡◌ {A = ℕ} 0 1 = cc in omega arith }).back b r (bytes_part s f.start f.size y) good).0 in
+      ((round_trips c (λ (x : R). Ok (x, next)) (Err (BadField at)) p.lawful record { one = λ x y q. (got_one q).0; never = λ x q. cc }).back b r (bytes_part s f.start f.size y) good).0 in
       record {
         bytes = ap (λ (n : ℕ). part s at (n + 4)) (sym size) ∙ record_part s at due f y t.framed ∙ ap₂ record_of kind (sym body);
         after = omega (arith, t.after, w.ends, size);
@@ -71,7 +73,7 @@ module _ {R : Type 0} (e : Listed R) (strict : Bool) (p : Plain e.kind e.place e
     pub after : m ≡ at + n * (total e.codec.layout + 4)
     pub within : m ≤ length s
 
-  pub run_back : (n low at : ℕ) (l : List R) (m : ℕ) → at ≤ length s → run_at e strict s n low at ≡ got l m → Run n at l m
+  pub run_back : (n low at : ℕ) (l : List R) (m : ℕ) → at ≤ length s → run_at e strict s n low at ≡ Ok (l, m) → Run n at l m
   unfolding bytes_of_all
   run_back zero low at l m h q =
       let z = none e strict s low at l m q in
@@ -104,21 +106,21 @@ defunct_alone : Yes (one_kind 3 at_defunct)
 unfolding rows ◌imp◌ ◌and◌
 defunct_alone = refl
 
-pub held_back : (strict : Bool) (s : List ℕ) → Bytes s → (x : Held) (end : ℕ) → held_by strict s ≡ got x end → (image_of x.model x.expected ≡ s) × (end ≡ length s)
+pub held_back : (strict : Bool) (s : List ℕ) → Bytes s → (x : Held) (end : ℕ) → held_by strict s ≡ Ok (x, end) → (image_of x.model x.expected ≡ s) × (end ≡ length s)
 unfolding held_by lists_at image_of
 held_back strict s y x end e =
     let w = then_got (record_at wire.head at_head s 0) (lists_at strict s) x end e in
     let h : Head = w.0 in
     let v = then_got (run_at active_list strict s h.actives 0 w.1) _ x end w.3 in
     let u = then_got (run_at defunct_list strict s h.defuncts 0 v.1) _ x end v.3 in
-    let c = cond_got (ltb u.1 (length s)) (BadOrder u.1) (got (held_of h v.0 u.0) u.1) x end u.3 in
+    let c = cond_got (ltb u.1 (length s)) (BadOrder u.1) (Ok (held_of h v.0 u.0, u.1)) x end u.3 in
     let ho = record_back wire.head head_plain head_alone s y 0 w.1 h w.2 in
     let ao = run_back active_list strict active_plain active_alone s y h.actives 0 w.1 v.0 v.1 ho.within v.2 in
     let dd = run_back defunct_list strict defunct_plain defunct_alone s y h.defuncts 0 v.1 u.0 u.1 ao.within u.2 in
     let na = run_length active_list strict s h.actives 0 w.1 v.0 v.1 v.2 in
     let nd = run_length defunct_list strict s h.defuncts 0 v.1 u.0 u.1 u.2 in
     let same : head_of (held_of h v.0 u.0).model h.expected ≡ h = λ i. record { revision = h.revision; expected = h.expected; actives = na i; defuncts = nd i } in
-    let told = told_one c.1 in
+    let told = got_one c.1 in
     let full : u.1 ≡ length s = omega (arith, dd.within, ltb-false u.1 (length s) c.0) in (
       ap (λ (z : Held). image_of z.model z.expected) (sym told.0)
           ∙ ap (λ (z : Head). record_of 1 (encode_by wire.head z) ++ (bytes_of_run active_list v.0 ++ bytes_of_run defunct_list u.0)) same
@@ -128,9 +130,6 @@ held_back strict s y x end e =
       sym told.1 ∙ full,
     )
   where
-    told_one : {a b : Held} {m n : ℕ} → got a m ≡ got b n → (a ≡ b) × (m ≡ n)
-    told_one q = (cc, cc)
-
     -- three pieces that stand one after the other are the whole
     whole_of : (s : List ℕ) (m n : ℕ) (h a d : List ℕ) → part s 0 20 ≡ h → part s 20 m ≡ a → part s (20 + m) n ≡ d → 20 + m + n ≡ length s → h ++ (a ++ d) ≡ s
     whole_of s m n h a d eh ea ed q =

@@ -1,8 +1,6 @@
 pub mod Stepping
 pub mod Running
-pub mod Runs
 pub mod Halves
-pub mod Passing
 pub mod Writes
 pub mod There
 pub mod Back

@@ -7,111 +7,96 @@ use Rattle.lists.specs.Papers.{Paper}
 use Rattle.lists.proofs.Papers.{pick, one_to_one, value_at}
 use Rattle.state.specs.declared.ActiveLock.{ActiveLock}
 use Rattle.state.specs.declared.DefunctLock.{DefunctLock}
+use Rattle.records.specs.Codecs.{Codec}
 use Rattle.records.specs.Wire as wire
 use Rattle.records.proofs.Wire.{active_faithful, defunct_faithful}
-use Rattle.image.specs.declared.Reading.{Reading}
-use Rattle.image.specs.declared.Reading.TheVariants.{Done, Torn, BadKind, BadField, BadOrder, UnsoundState}
-use Rattle.image.specs.declared.Writing.{Writing}
-use Rattle.image.specs.declared.Writing.TheVariants as W
-use Rattle.image.specs.declared.reader.Step.{Step}
-use Rattle.image.specs.declared.reader.Step.TheVariants as S
-use Rattle.image.specs.declared.reader.HeadStep.{HeadStep}
-use Rattle.image.specs.declared.reader.HeadStep.TheVariants as head
-use Rattle.image.specs.declared.reader.ActiveStep.{ActiveStep}
-use Rattle.image.specs.declared.reader.ActiveStep.TheVariants as active
-use Rattle.image.specs.declared.reader.DefunctStep.{DefunctStep}
-use Rattle.image.specs.declared.reader.DefunctStep.TheVariants as defunct
+use Rattle.std.specs.Prelude.{Result, Ok, Err, ⊤}
+use Rattle.image.specs.declared.ImageRefusal.{ImageRefusal}
+use Rattle.image.specs.declared.ImageRefusal.TheVariants.{Torn, BadKind, BadField, BadOrder, UnsoundState}
+use Rattle.image.specs.declared.WriteRefusal.{WriteRefusal}
+use Rattle.image.specs.declared.WriteRefusal.TheVariants as W
+use Rattle.records.specs.declared.bodies.Head.{Head}
 use Rattle.image.specs.Image.{reading_paper, writing_paper}
 use Rattle.image.specs.Steps.{step_paper, head_paper, active_paper, defunct_paper}
 
-reading_of : Paper → Reading
+reading_of : Paper → Result ⊤ ImageRefusal
 reading_of p =
     pick p.number
-    ((12, UnsoundState (value_at p 0)) ∷ (17, Torn (value_at p 0)) ∷ (18, BadKind (value_at p 0)) ∷ (19, BadField (value_at p 0)) ∷ (20, BadOrder (value_at p 0)) ∷ [])
-    Done
+    ((12, Err (UnsoundState (value_at p 0))) ∷ (17, Err (Torn (value_at p 0))) ∷ (18, Err (BadKind (value_at p 0))) ∷ (19, Err (BadField (value_at p 0))) ∷ (20, Err (BadOrder (value_at p 0))) ∷ [])
+    (Ok tt)
 
-reading_back : (a : Reading) → reading_of (reading_paper a) ≡ a
+reading_back : (a : Result ⊤ ImageRefusal) → reading_of (reading_paper a) ≡ a
 unfolding reading_of reading_paper
-reading_back Done = refl
-reading_back (Torn at) = refl
-reading_back (BadKind at) = refl
-reading_back (BadField at) = refl
-reading_back (BadOrder at) = refl
-reading_back (UnsoundState rule) = refl
+reading_back (Ok tt) = refl
+reading_back (Err (Torn at)) = refl
+reading_back (Err (BadKind at)) = refl
+reading_back (Err (BadField at)) = refl
+reading_back (Err (BadOrder at)) = refl
+reading_back (Err (UnsoundState rule)) = refl
 
-pub reading_one : (a b : Reading) → reading_paper a ≡ reading_paper b → a ≡ b
+pub reading_one : (a b : Result ⊤ ImageRefusal) → reading_paper a ≡ reading_paper b → a ≡ b
 reading_one = one_to_one reading_paper reading_of reading_back
 
-writing_of : Paper → Writing
-writing_of p = pick p.number ((12, W.UnsoundState (value_at p 0)) ∷ (21, W.ShortOutput (value_at p 0)) ∷ []) (W.Done (value_at p 0))
+writing_of : Paper → Result ℕ WriteRefusal
+writing_of p = pick p.number ((12, Err (W.UnsoundState (value_at p 0))) ∷ (21, Err (W.ShortOutput (value_at p 0))) ∷ []) (Ok (value_at p 0))
 
-writing_back : (a : Writing) → writing_of (writing_paper a) ≡ a
+writing_back : (a : Result ℕ WriteRefusal) → writing_of (writing_paper a) ≡ a
 unfolding writing_of writing_paper
-writing_back (W.Done bytes) = refl
-writing_back (W.UnsoundState rule) = refl
-writing_back (W.ShortOutput bytes) = refl
+writing_back (Ok bytes) = refl
+writing_back (Err (W.UnsoundState rule)) = refl
+writing_back (Err (W.ShortOutput bytes)) = refl
 
-pub writing_one : (a b : Writing) → writing_paper a ≡ writing_paper b → a ≡ b
+pub writing_one : (a b : Result ℕ WriteRefusal) → writing_paper a ≡ writing_paper b → a ≡ b
 writing_one = one_to_one writing_paper writing_of writing_back
 
 -- ---- steps: what was read, or a refusal. Beside number 0 only what was read has values.
-module _ {A : Type 0} (refused : Reading → A) (read : Paper → A) where
-  abbrev by_values : List ℕ → A → A → A
-  by_values [] x y = x
-  by_values (v ∷ vs) x y = y
+module _ {A : Type 0} (read : Paper → A) where
+  abbrev with_read : A → Result ⊤ ImageRefusal → Result A ImageRefusal
+  with_read a (Ok tt) = Ok a
+  with_read a (Err x) = Err x
 
-  abbrev step_in : Paper → A
-  step_in p = pick p.number ((0, by_values p.values (refused Done) (read p)) ∷ []) (refused (reading_of p))
+  abbrev step_in : Paper → Result A ImageRefusal
+  step_in p = with_read (read p) (reading_of p)
 
-  refused_back : (x : Reading) → step_in (reading_paper x) ≡ refused x
-  unfolding reading_of reading_paper
-  refused_back Done = refl
-  refused_back (Torn at) = refl
-  refused_back (BadKind at) = refl
-  refused_back (BadField at) = refl
-  refused_back (BadOrder at) = refl
-  refused_back (UnsoundState rule) = refl
+  refused_back : (x : ImageRefusal) → step_in (reading_paper (Err x)) ≡ Err x
+  refused_back x = ap (with_read (read (reading_paper (Err x)))) (reading_back (Err x))
 
-abbrev body_in : Paper → Step
-body_in p = S.Body (value_at p 0) (value_at p 1)
+abbrev body_in : Paper → ℕ × ℕ
+body_in p = (value_at p 0, value_at p 1)
 
-step_back : (a : Step) → step_in S.Refused body_in (step_paper a) ≡ a
-unfolding step_paper
-step_back (S.Body from end) = refl
-step_back (S.Refused x) = refused_back S.Refused body_in x
+step_back : (a : Result (ℕ × ℕ) ImageRefusal) → step_in body_in (step_paper a) ≡ a
+unfolding step_paper reading_of
+step_back (Ok (from, end)) = refl
+step_back (Err x) = refused_back body_in x
 
-pub step_one : (a b : Step) → step_paper a ≡ step_paper b → a ≡ b
-step_one = one_to_one step_paper (step_in S.Refused body_in) step_back
+pub step_one : (a b : Result (ℕ × ℕ) ImageRefusal) → step_paper a ≡ step_paper b → a ≡ b
+step_one = one_to_one step_paper (step_in body_in) step_back
 
-abbrev head_in : Paper → HeadStep
-head_in p = head.Read ((wire.head).made (drop 1 p.values)) (value_at p 0)
+-- a record's numbers and the place after it
+module _ {R : Type 0} (c : Codec R) where
+  abbrev record_in : Paper → R × ℕ
+  record_in p = (c.made (drop 1 p.values), value_at p 0)
 
-head_back : (a : HeadStep) → step_in head.Refused head_in (head_paper a) ≡ a
-unfolding head_paper
-head_back (head.Read h next) = refl
-head_back (head.Refused x) = refused_back head.Refused head_in x
+head_back : (a : Result (Head × ℕ) ImageRefusal) → step_in (record_in wire.head) (head_paper a) ≡ a
+unfolding head_paper reading_of
+head_back (Ok (h, next)) = refl
+head_back (Err x) = refused_back (record_in wire.head) x
 
-pub head_one : (a b : HeadStep) → head_paper a ≡ head_paper b → a ≡ b
-head_one = one_to_one head_paper (step_in head.Refused head_in) head_back
+pub head_one : (a b : Result (Head × ℕ) ImageRefusal) → head_paper a ≡ head_paper b → a ≡ b
+head_one = one_to_one head_paper (step_in (record_in wire.head)) head_back
 
-abbrev active_in : Paper → ActiveStep
-active_in p = active.Read ((wire.active).made (drop 1 p.values)) (value_at p 0)
+active_back : (a : Result (ActiveLock × ℕ) ImageRefusal) → step_in (record_in wire.active) (active_paper a) ≡ a
+unfolding active_paper reading_of
+active_back (Ok (a, next)) = ap (λ (x : ActiveLock). Ok (x, next)) (active_faithful a)
+active_back (Err x) = refused_back (record_in wire.active) x
 
-active_back : (a : ActiveStep) → step_in active.Refused active_in (active_paper a) ≡ a
-unfolding active_paper
-active_back (active.Read a next) = ap (λ (x : ActiveLock). active.Read x next) (active_faithful a)
-active_back (active.Refused x) = refused_back active.Refused active_in x
+pub active_one : (a b : Result (ActiveLock × ℕ) ImageRefusal) → active_paper a ≡ active_paper b → a ≡ b
+active_one = one_to_one active_paper (step_in (record_in wire.active)) active_back
 
-pub active_one : (a b : ActiveStep) → active_paper a ≡ active_paper b → a ≡ b
-active_one = one_to_one active_paper (step_in active.Refused active_in) active_back
+defunct_back : (a : Result (DefunctLock × ℕ) ImageRefusal) → step_in (record_in wire.defunct) (defunct_paper a) ≡ a
+unfolding defunct_paper reading_of
+defunct_back (Ok (d, next)) = ap (λ (x : DefunctLock). Ok (x, next)) (defunct_faithful d)
+defunct_back (Err x) = refused_back (record_in wire.defunct) x
 
-abbrev defunct_in : Paper → DefunctStep
-defunct_in p = defunct.Read ((wire.defunct).made (drop 1 p.values)) (value_at p 0)
-
-defunct_back : (a : DefunctStep) → step_in defunct.Refused defunct_in (defunct_paper a) ≡ a
-unfolding defunct_paper
-defunct_back (defunct.Read d next) = ap (λ (x : DefunctLock). defunct.Read x next) (defunct_faithful d)
-defunct_back (defunct.Refused x) = refused_back defunct.Refused defunct_in x
-
-pub defunct_one : (a b : DefunctStep) → defunct_paper a ≡ defunct_paper b → a ≡ b
-defunct_one = one_to_one defunct_paper (step_in defunct.Refused defunct_in) defunct_back
+pub defunct_one : (a b : Result (DefunctLock × ℕ) ImageRefusal) → defunct_paper a ≡ defunct_paper b → a ≡ b
+defunct_one = one_to_one defunct_paper (step_in (record_in wire.defunct)) defunct_back

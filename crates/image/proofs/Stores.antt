@@ -2,12 +2,13 @@
 use mathlib.Core.Path.{◌≡◌, refl, sym, ap, ap₂, ◌∙◌}
 use mathlib.Core.Bool.{Bool, true, false, cond}
 use mathlib.Core.List.{List}
-use Prim.Native.Nat.{ℕ, ◌+◌, ◌*◌, ◌≤◌, ◌<◌}
+use Prim.Native.Nat.{ℕ, ◌+◌, ◌*◌, ◌≤◌, ◌<◌, min}
+use native.Mathlib.Nat.{min-eq_left, min-eq_right, min-le_right}
 use native.Mathlib.Omega.{arith}
 use lib.ListN.{length, take}
 use lib.Seq.{take_all, length-take-le}
-use lib.Dec.{ltb}
-use borrow.Author.Tests.{le-leb, lt-leb, ltb-true, ltb-false}
+use lib.Dec.{leb}
+use borrow.Author.Tests.{le-leb, lt-leb, leb-true, leb-false}
 use Rattle.lists.proofs.Tests.{cond_true, cond_false}
 use Rattle.records.specs.Numbers.{splice, stored, bytes_of_all}
 use Rattle.records.specs.Codecs.{encode_by}
@@ -27,62 +28,61 @@ pub record Capped {A : Type 0} (l : List A) (n most r : ℕ) : Type 0 where
   pub same : take r l ≡ take n l
   pub count : length (take n l) ≡ r
 
-pub capped : {A : Type 0} (l : List A) (n most r : ℕ) → length l ≡ most → r ≡ cond (ltb most n) most n → Capped l n most r
-capped l n most r e q = go (ltb most n) refl
+pub capped : {A : Type 0} (l : List A) (n most r : ℕ) → length l ≡ most → r ≡ min n most → Capped l n most r
+capped l n most r e q = go (leb n most) refl
   where
-    go : (b : Bool) → ltb most n ≡ b → Capped l n most r
+    go : (b : Bool) → leb n most ≡ b → Capped l n most r
     go true t =
-        let h : most < n = ltb-true most n t in
-        let w : r ≡ most = q ∙ cond_true _ _ _ t in
+        let h : n ≤ most = leb-true n most t in
+        let w : r ≡ n = q ∙ min-eq_left h in
+        record { small = omega arith; same = ap (λ (k : ℕ). take k l) w; count = length-take-le n l (omega arith) ∙ sym w }
+    go false t =
+        let h : most < n = leb-false n most t in
+        let w : r ≡ most = q ∙ min-eq_right (omega arith) in
         let s : take r l ≡ take n l = take_all r l (omega arith) ∙ sym (take_all n l (omega arith)) in
         record { small = omega arith; same = s; count = ap length (take_all n l (omega arith)) ∙ omega arith }
-    go false t =
-        let h : n ≤ most = ltb-false most n t in
-        let w : r ≡ n = q ∙ cond_false _ _ _ t in
-        record { small = omega arith; same = ap (λ (k : ℕ). take k l) w; count = length-take-le n l (omega arith) ∙ sym w }
 
-pub cap_small : (n most r : ℕ) → r ≡ cond (ltb most n) most n → r ≤ most
-cap_small n most r q = go (ltb most n) refl
-  where
-    go : (b : Bool) → ltb most n ≡ b → r ≤ most
-    go true t = let w : r ≡ most = q ∙ cond_true _ _ _ t in omega arith
-    go false t = let w : r ≡ n = q ∙ cond_false _ _ _ t in omega (arith, ltb-false most n t)
+pub cap_small : (n most r : ℕ) → r ≡ min n most → r ≤ most
+cap_small n most r q = omega (arith, q, min-le_right n most)
 
--- ---- the spare's image: the counts that the code takes are those of its lists
-module _ (sp : Spare) (a d : ℕ) (ga : Capped sp.state.active sp.state.actives 64 a) (gd : Capped sp.state.defunct sp.state.defuncts 128 d) where
+-- ---- the spare's image, by the two lists that the code takes from its state
+module _ (sp : Spare) (xs : List ActiveLock) (ys : List DefunctLock) (ex : xs ≡ (model_of sp.state).active) (ey : ys ≡ (model_of sp.state).defunct) where
   abbrev image : List ℕ
   image = image_of (model_of sp.state) sp.expected
 
-  pub size_of : 20 + a * 91 + d * 104 ≡ length image
-  size_of = omega (arith, length_image (model_of sp.state) sp.expected, ga.count, gd.count)
+  pub size_of : 20 + length xs * 91 + length ys * 104 ≡ length image
+  size_of = omega (arith, length_image (model_of sp.state) sp.expected, ap length ex, ap length ey)
 
-  pub no_room : (out : List ℕ) → length out < 20 + a * 91 + d * 104 → out ≡ stored out 0 image
+  pub no_room : (out : List ℕ) → length out < 20 + length xs * 91 + length ys * 104 → out ≡ stored out 0 image
   unfolding stored
   no_room out h = sym (cond_false _ _ _ (lt-leb (0 + length image) (length out) (omega (arith, size_of))))
 
-  pub image_stored : (out : List ℕ) → 20 + a * 91 + d * 104 ≤ length out → (s₁ s₂ s₃ : List ℕ)
-      → s₁ ≡ stored out 0 (record_of 1 (encode_by wire.head (record { revision = sp.state.revision; expected = sp.expected; actives = a; defuncts = d })))
-      → s₂ ≡ splice s₁ 20 (bytes_of_run active_list (take a sp.state.active))
-      → s₃ ≡ splice s₂ (20 + a * 91) (bytes_of_run defunct_list (take d sp.state.defunct))
+  pub image_stored : (out : List ℕ) → 20 + length xs * 91 + length ys * 104 ≤ length out → (s₁ s₂ s₃ : List ℕ)
+      → s₁ ≡ stored out 0 (record_of 1 (encode_by wire.head (record { revision = sp.state.revision; expected = sp.expected; actives = length xs; defuncts = length ys })))
+      → s₂ ≡ splice s₁ 20 (bytes_of_run active_list xs)
+      → s₃ ≡ splice s₂ (20 + length xs * 91) (bytes_of_run defunct_list ys)
       → s₃ ≡ stored out 0 image
   unfolding stored image_of
   image_stored out h s₁ s₂ s₃ e₁ e₂ e₃ =
-      let m : Model = model_of sp.state in
-      let head : List ℕ = record_of 1 (encode_by wire.head (head_of m sp.expected)) in
-      let xs : List ℕ = bytes_of_run active_list m.active in
-      let ys : List ℕ = bytes_of_run defunct_list m.defunct in
-      let lh : length head ≡ 20 = length_whole wire.head head_plain (head_of m sp.expected) in
-      let lx : length xs ≡ length m.active * 91 = length_run active_list active_plain m.active in
-      let ly : length ys ≡ length m.defunct * 104 = length_run defunct_list defunct_plain m.defunct in
-      let na : length m.active ≡ a = ga.count in
-      let nd : length m.defunct ≡ d = gd.count in
-      let e₁' : s₁ ≡ splice out 0 head =
-      e₁ ∙ ap₂ (λ (x y : ℕ). stored out 0 (record_of 1 (encode_by wire.head (record { revision = sp.state.revision; expected = sp.expected; actives = x; defuncts = y })))) (sym na) (sym nd)
-      ∙ cond_true _ _ _ (le-leb (0 + length head) (length out) (omega arith)) in
-      let e₂' : s₂ ≡ splice (splice out 0 head) 20 xs = e₂ ∙ ap₂ (λ (x : List ℕ) (l : List ActiveLock). splice x 20 (bytes_of_run active_list l)) e₁' ga.same in
-      e₃ ∙ ap₂ (λ (x : List ℕ) (l : List DefunctLock). splice x (20 + a * 91) (bytes_of_run defunct_list l)) e₂' gd.same
-      ∙ pieces out head xs ys 20 (20 + a * 91) lh (omega arith) (omega arith)
+      let head : List ℕ = record_of 1 (encode_by wire.head (record { revision = sp.state.revision; expected = sp.expected; actives = length xs; defuncts = length ys })) in
+      let lh : length head ≡ 20 = length_whole wire.head head_plain (record { revision = sp.state.revision; expected = sp.expected; actives = length xs; defuncts = length ys }) in
+      let lx : length (bytes_of_run active_list xs) ≡ length xs * 91 = length_run active_list active_plain xs in
+      let ly : length (bytes_of_run defunct_list ys) ≡ length ys * 104 = length_run defunct_list defunct_plain ys in
+      let held : image_of (record { revision = sp.state.revision; active = xs; defunct = ys }) sp.expected ≡ image = λ i. image_of (record { revision = sp.state.revision; active = ex i; defunct = ey i }) sp.expected in
+      e₃ ∙ ap (λ (x : List ℕ). splice x (20 + length xs * 91) (bytes_of_run defunct_list ys)) (e₂ ∙ ap (λ (x : List ℕ). splice x 20 (bytes_of_run active_list xs)) (e₁ ∙ cond_true _ _ _ (le-leb (0 + length head) (length out) (omega arith))))
+      ∙ pieces out head (bytes_of_run active_list xs) (bytes_of_run defunct_list ys) 20 (20 + length xs * 91) lh (omega arith) (omega arith)
+      ∙ ap (splice out 0) held
       ∙ sym (cond_true _ _ _ (le-leb (0 + length image) (length out) (omega (arith, size_of))))
+
+-- ---- a list stored from the buffer's start on: f gives an element's bytes, z of them
+module _ {R : Type 0} (f : R → List ℕ) (z : ℕ) (w : (r : R) → length (f r) ≡ z) (s : List ℕ) (l : List R) where
+  pub none_stored : length s < length l * z → s ≡ stored s 0 (bytes_of_all f l)
+  unfolding stored
+  none_stored h = sym (cond_false _ _ _ (lt-leb (0 + length (bytes_of_all f l)) (length s) (omega (arith, length_all f z w l))))
+
+  pub run_stored : length l * z ≤ length s → (u : List ℕ) → u ≡ splice s 0 (bytes_of_all f l) → u ≡ stored s 0 (bytes_of_all f l)
+  unfolding stored
+  run_stored h u e = e ∙ sym (cond_true _ _ _ (le-leb (0 + length (bytes_of_all f l)) (length s) (omega (arith, length_all f z w l))))
 
 -- ---- f gives an element's bytes, z of them; k is the count that was stored
 module _ {R : Type 0} (f : R → List ℕ) (z : ℕ) (w : (r : R) → length (f r) ≡ z) (s : List ℕ) (l : List R) (n most k : ℕ) (g : Capped l n most k) where

@@ -20,8 +20,8 @@ use Rattle.state.specs.declared.DefunctLock.{DefunctLock}
 use Rattle.state.specs.declared.LockState.{LockState}
 use Rattle.state.specs.Model.{Model, model_of, state_of, fits}
 use Rattle.state.proofs.Laws.{model-of-state}
-use Rattle.rules.specs.declared.Verdict.{Verdict}
-use Rattle.rules.specs.declared.Verdict.TheVariants.{Sound, Broken}
+use Rattle.std.specs.Prelude.{Result, Ok, Err, ⊤}
+use Rattle.rules.specs.declared.Unsound.{Unsound}
 use Rattle.rules.specs.Rules.{zero_id, zero_set, neat_l, neat_a, neat_d, neat, in_order, broken_rule}
 use Rattle.rules.proofs.Sound.{facts_of_state, tidy_of_sound}
 use Rattle.records.specs.Wire as wire
@@ -29,13 +29,12 @@ use Rattle.records.proofs.Numbers.{Bytes}
 use Rattle.records.proofs.Wire.{lock_neat, active_neat, defunct_neat, head_faithful, active_faithful, defunct_faithful}
 use Rattle.image.specs.declared.Spare.{Spare}
 use Rattle.image.specs.declared.Imaged.{Imaged}
-use Rattle.image.specs.declared.Reading.{Reading}
-use Rattle.image.specs.declared.Reading.TheVariants.{Done, UnsoundState}
-use Rattle.image.specs.declared.Writing.TheVariants as W
-use Rattle.image.specs.Image.{Got, stopped, got, Held, held_in, spare_of, no_spare, refusal, imaged, records_of, judged, tested, read_on, head_of, image_of, Written, done, fitted, written_by, write_on, reading_paper}
+use Rattle.image.specs.declared.ImageRefusal.{ImageRefusal}
+use Rattle.image.specs.declared.WriteRefusal.{WriteRefusal}
+use Rattle.image.specs.declared.WriteRefusal.TheVariants.{ShortOutput}
+use Rattle.image.specs.Refusals.{unsound, not_written}
+use Rattle.image.specs.Image.{Got, Held, held_in, spare_of, no_spare, refusal, imaged, records_of, judged, tested, read_on, head_of, image_of, Written, done, fitted, written_by, write_on, reading_paper}
 use Rattle.image.specs.Ranges.{InTypes}
-use Rattle.image.specs.Code.{is_done}
-use Rattle.image.proofs.Halves.{held_fault, tested_not}
 use Rattle.image.proofs.There.{WellHeld, held_there}
 use Rattle.image.proofs.Back.{held_back}
 use Rattle.image.proofs.Papers.{reading_one}
@@ -58,7 +57,7 @@ pub mem_take : {A : Type 0} (n : ℕ) (l : List A) {a : A} → Mem a (take n l) 
 mem_take n l {a} m = subst (Mem a) (take-append-drop n l) (Memᴰ.append_left (drop n l) m)
 
 -- ---- a sound state within the types can be written
-module _ (sp : Spare) (r : InTypes sp) (q : broken_rule sp.state ≡ Sound) where
+module _ (sp : Spare) (r : InTypes sp) (q : broken_rule sp.state ≡ Ok tt) where
   pub well_held : WellHeld (model_of sp.state) sp.expected
   unfolding fits in_order neat
   well_held =
@@ -80,7 +79,7 @@ module _ (sp : Spare) (r : InTypes sp) (q : broken_rule sp.state ≡ Sound) wher
       }
 
   abbrev there : Imaged
-  there = record { told = Done; spare = sp }
+  there = record { told = Ok tt; spare = sp }
 
   -- A written image reads back as the same state and expected number.
   pub read_written : read_on (image_of (model_of sp.state) sp.expected) ≡ there
@@ -88,19 +87,19 @@ module _ (sp : Spare) (r : InTypes sp) (q : broken_rule sp.state ≡ Sound) wher
   read_written =
       let t = tidy_of_sound sp.state r.actives r.defuncts q in
       ap (λ (g : Got Held). tested (imaged g) (imaged g).told) (held_there (model_of sp.state) sp.expected well_held)
-      ∙ ap (λ (s : LockState). judged (record { told = Done; spare = record { state = s; expected = sp.expected } }) (broken_rule s)) t.same
+      ∙ ap (λ (s : LockState). judged (record { told = Ok tt; spare = record { state = s; expected = sp.expected } }) (broken_rule s)) t.same
       ∙ ap (judged there) q
 
 -- as the call leaves it in a buffer
-fit_done : (c : Bool) (m k n : ℕ) (out out' x : List ℕ) → cond c (done (W.ShortOutput m) out) (done (W.Done k) x) ≡ done (W.Done n) out' → (n ≡ k) × (out' ≡ x)
-fit_done true m k n out out' x e = absurd (let q : W.ShortOutput m ≡ W.Done n = ap (λ (w : Written). w.told) e in let z : ◌≡◌ {A = ℕ} 0 1 = cc in omega arith)
-fit_done false m k n out out' x e = let q : W.Done k ≡ W.Done n = ap (λ (w : Written). w.told) e in (cc, sym (ap (λ (w : Written). w.out) e))
+fit_done : (c : Bool) (m k n : ℕ) (out out' x : List ℕ) → cond c (done (Err (ShortOutput m)) out) (done (Ok k) x) ≡ done (Ok n) out' → (n ≡ k) × (out' ≡ x)
+fit_done true m k n out out' x e = let q : Err (ShortOutput m) ≡ Ok n = ap (λ (w : Written). w.told) e in cc
+fit_done false m k n out out' x e = let q : ◌≡◌ {A = Result ℕ WriteRefusal} (Ok k) (Ok n) = ap (λ (w : Written). w.told) e in (cc, sym (ap (λ (w : Written). w.out) e))
 
-write_done : (v : Verdict) (b out out' : List ℕ) (n : ℕ) → written_by v b out ≡ done (W.Done n) out' → (v ≡ Sound) × (take n out' ≡ b)
-write_done Sound b out out' n e = let w = fit_done (ltb (length out) (length b)) _ _ n out out' _ e in (refl, ap₂ take w.0 w.1 ∙ take_at b (drop (length b) out) (length b) refl)
-write_done (Broken k) b out out' n e = absurd (let q : W.UnsoundState k ≡ W.Done n = ap (λ (w : Written). w.told) e in let z : ◌≡◌ {A = ℕ} 0 1 = cc in omega arith)
+write_done : (v : Result ⊤ Unsound) (b out out' : List ℕ) (n : ℕ) → written_by v b out ≡ done (Ok n) out' → (v ≡ Ok tt) × (take n out' ≡ b)
+write_done (Ok u) b out out' n e = let w = fit_done (ltb (length out) (length b)) _ _ n out out' _ e in (refl, ap₂ take w.0 w.1 ∙ take_at b (drop (length b) out) (length b) refl)
+write_done (Err u) b out out' n e = let q : Err (not_written u) ≡ Ok n = ap (λ (w : Written). w.told) e in cc
 
-pub read_what_was_written : (sp : Spare) → InTypes sp → (out out' : List ℕ) (n : ℕ) → write_on sp out ≡ done (W.Done n) out' → read_on (take n out') ≡ record { told = Done; spare = sp }
+pub read_what_was_written : (sp : Spare) → InTypes sp → (out out' : List ℕ) (n : ℕ) → write_on sp out ≡ done (Ok n) out' → read_on (take n out') ≡ record { told = Ok tt; spare = sp }
 unfolding write_on
 read_what_was_written sp r out out' n e =
     let w = write_done (broken_rule sp.state) (image_of (model_of sp.state) sp.expected) out out' n e in
@@ -110,26 +109,24 @@ read_what_was_written sp r out out' n e =
 pub record Accepted (s : List ℕ) (sp : Spare) : Type 0 where
   pub held : Held
   pub end : ℕ
-  pub is : held_in s ≡ got held end
+  pub is : held_in s ≡ Ok (held, end)
   pub spare : sp ≡ spare_of held
-  pub sound : broken_rule sp.state ≡ Sound
+  pub sound : broken_rule sp.state ≡ Ok tt
 
 module _ (s : List ℕ) (sp : Spare) where
-  done_by : (h : Held) (v : Verdict) → broken_rule (state_of h.model) ≡ v → judged (record { told = Done; spare = spare_of h }) v ≡ record { told = Done; spare = sp } → (sp ≡ spare_of h) × (broken_rule sp.state ≡ Sound)
-  done_by h Sound q e = let w = ap (λ (x : Imaged). x.spare) e in (sym w, ap (λ (x : Spare). broken_rule x.state) (sym w) ∙ q)
-  done_by h (Broken k) q e = absurd (let w : UnsoundState k ≡ Done = ap (λ (x : Imaged). x.told) e in let z : ◌≡◌ {A = ℕ} 0 1 = cc in omega arith)
+  done_by : (h : Held) (v : Result ⊤ Unsound) → broken_rule (state_of h.model) ≡ v → judged (record { told = Ok tt; spare = spare_of h }) v ≡ record { told = Ok tt; spare = sp } → (sp ≡ spare_of h) × (broken_rule sp.state ≡ Ok tt)
+  done_by h (Ok u) q e = let w = ap (λ (x : Imaged). x.spare) e in (sym w, ap (λ (x : Spare). broken_rule x.state) (sym w) ∙ q)
+  done_by h (Err u) q e = let w : Err (unsound u) ≡ Ok tt = ap (λ (x : Imaged). x.told) e in cc
 
-  accepted_by : (g : Got Held) → held_in s ≡ g → tested (imaged g) (imaged g).told ≡ record { told = Done; spare = sp } → Accepted s sp
-  accepted_by (stopped x) q e =
-      let k = held_fault true s x q in
-      absurd (against k (ap is_done (ap (λ (i : Imaged). i.told) (sym (tested_not (refusal x) x k) ∙ e))))
-  accepted_by (got h n) q e = let w = done_by h (broken_rule (state_of h.model)) refl e in record { held = h; end = n; is = q; spare = w.0; sound = w.1 }
+  accepted_by : (g : Got Held) → held_in s ≡ g → tested (imaged g) (imaged g).told ≡ record { told = Ok tt; spare = sp } → Accepted s sp
+  accepted_by (Err x) q e = let w : Err x ≡ Ok tt = ap (λ (i : Imaged). i.told) e in cc
+  accepted_by (Ok (h, n)) q e = let w = done_by h (broken_rule (state_of h.model)) refl e in record { held = h; end = n; is = q; spare = w.0; sound = w.1 }
 
-  pub accepted : read_on s ≡ record { told = Done; spare = sp } → Accepted s sp
+  pub accepted : read_on s ≡ record { told = Ok tt; spare = sp } → Accepted s sp
   unfolding read_on records_of
   accepted e = accepted_by (held_in s) refl e
 
-  module _ (y : Bytes s) (e : read_on s ≡ record { told = Done; spare = sp }) where
+  module _ (y : Bytes s) (e : read_on s ≡ record { told = Ok tt; spare = sp }) where
     -- An accepted image writes back as the same bytes.
     pub write_read : image_of (model_of sp.state) sp.expected ≡ s
     write_read =
@@ -139,34 +136,34 @@ module _ (s : List ℕ) (sp : Spare) where
         ∙ (held_back true s y a.held a.end a.is).0
 
     -- into any buffer with room for it
-    pub write_what_was_read : (out : List ℕ) → length s ≤ length out → write_on sp out ≡ done (W.Done (length s)) (s ++ drop (length s) out)
+    pub write_what_was_read : (out : List ℕ) → length s ≤ length out → write_on sp out ≡ done (Ok (length s)) (s ++ drop (length s) out)
     unfolding write_on
     write_what_was_read out h =
-        ap (λ (v : Verdict). written_by v (image_of (model_of sp.state) sp.expected) out) (accepted e).sound
+        ap (λ (v : Result ⊤ Unsound). written_by v (image_of (model_of sp.state) sp.expected) out) (accepted e).sound
         ∙ ap (λ (b : List ℕ). fitted b out) write_read
         ∙ cond_false _ _ _ (le-ltb (length out) (length s) h)
 
 -- ---- Equal images mean equal locks: of sound states the state and the expected number are one.
-pub one_image : (sp sp' : Spare) → InTypes sp → InTypes sp' → broken_rule sp.state ≡ Sound → broken_rule sp'.state ≡ Sound
+pub one_image : (sp sp' : Spare) → InTypes sp → InTypes sp' → broken_rule sp.state ≡ Ok tt → broken_rule sp'.state ≡ Ok tt
     → image_of (model_of sp.state) sp.expected ≡ image_of (model_of sp'.state) sp'.expected → sp ≡ sp'
 one_image sp sp' r r' q q' e = ap (λ (i : Imaged). i.spare) (sym (read_written sp r q) ∙ ap read_on e ∙ read_written sp' r' q')
 
 -- and of accepted byte strings: two that read as one spare are one
-pub one_reading : (s s' : List ℕ) → Bytes s → Bytes s' → (sp : Spare) → read_on s ≡ record { told = Done; spare = sp } → read_on s' ≡ record { told = Done; spare = sp } → s ≡ s'
+pub one_reading : (s s' : List ℕ) → Bytes s → Bytes s' → (sp : Spare) → read_on s ≡ record { told = Ok tt; spare = sp } → read_on s' ≡ record { told = Ok tt; spare = sp } → s ≡ s'
 one_reading s s' y y' sp e e' = sym (write_read s sp y e) ∙ write_read s' sp y' e'
 
 -- ---- every byte string gets exactly one answer, and a refusal no spare
-pub one_answer : (s : List ℕ) → (a : Reading) × ((read_on s).told ≡ a) × ((b : Reading) → reading_paper (read_on s).told ≡ reading_paper b → b ≡ a)
+pub one_answer : (s : List ℕ) → (a : Result ⊤ ImageRefusal) × ((read_on s).told ≡ a) × ((b : Result ⊤ ImageRefusal) → reading_paper (read_on s).told ≡ reading_paper b → b ≡ a)
 one_answer s = ((read_on s).told, refl, λ b e. reading_one b (read_on s).told (sym e))
 
-judged_empty : (i : Imaged) (v : Verdict) → i.told ≡ Done → ((judged i v).told ≡ Done → ⊥) → (judged i v).spare ≡ no_spare
-judged_empty i Sound q k = absurd (k q)
-judged_empty i (Broken n) q k = refl
+judged_empty : (i : Imaged) (v : Result ⊤ Unsound) → i.told ≡ Ok tt → ((judged i v).told ≡ Ok tt → ⊥) → (judged i v).spare ≡ no_spare
+judged_empty i (Ok u) q k = absurd (k q)
+judged_empty i (Err u) q k = refl
 
-pub no_spare_lem : (s : List ℕ) → ((read_on s).told ≡ Done → ⊥) → (read_on s).spare ≡ no_spare
+pub no_spare_lem : (s : List ℕ) → ((read_on s).told ≡ Ok tt → ⊥) → (read_on s).spare ≡ no_spare
 unfolding read_on records_of
 no_spare_lem s k = go (held_in s) refl k
   where
-    go : (g : Got Held) → held_in s ≡ g → ((tested (imaged g) (imaged g).told).told ≡ Done → ⊥) → (tested (imaged g) (imaged g).told).spare ≡ no_spare
-    go (stopped x) q f = ap (λ (i : Imaged). i.spare) (tested_not (refusal x) x (held_fault true s x q))
-    go (got h n) q f = judged_empty (record { told = Done; spare = spare_of h }) (broken_rule (state_of h.model)) refl f
+    go : (g : Got Held) → held_in s ≡ g → ((tested (imaged g) (imaged g).told).told ≡ Ok tt → ⊥) → (tested (imaged g) (imaged g).told).spare ≡ no_spare
+    go (Err x) q f = refl
+    go (Ok (h, n)) q f = judged_empty (record { told = Ok tt; spare = spare_of h }) (broken_rule (state_of h.model)) refl f

@@ -9,7 +9,7 @@ use lib.ListN.{length, drop, length-append}
 use borrow.Author.Tests.{le-leb, lt-ltb, le-ltb}
 use Rattle.lists.proofs.Tests.{cond_true, cond_false}
 use Rattle.records.specs.declared.kinds.Kind.{Kind}
-use Rattle.records.specs.declared.kinds.Row.TheVariants.{Known}
+use Rattle.std.specs.Prelude.{Result, Ok, Err, Some, ⊤}
 use Rattle.records.specs.Numbers.{splice}
 use Rattle.records.specs.Numbers as N
 use Rattle.records.specs.Layouts.{total}
@@ -25,17 +25,17 @@ use Rattle.records.proofs.Storing.{length_body}
 use Rattle.records.proofs.Wire.{head_lawful, active_lawful, defunct_lawful}
 use Rattle.state.specs.Model.{Model, model_of, Tidy}
 use Rattle.state.proofs.Laws.{active_count, defunct_count}
-use Rattle.rules.specs.declared.Verdict.{Verdict}
-use Rattle.rules.specs.declared.Verdict.TheVariants.{Sound, Broken}
+use Rattle.rules.specs.declared.Unsound.{Unsound}
 use Rattle.rules.specs.Rules.{broken_rule}
 use Rattle.image.specs.declared.Spare.{Spare}
-use Rattle.image.specs.declared.Writing.TheVariants as W
+use Rattle.image.specs.declared.WriteRefusal.TheVariants.{ShortOutput}
+use Rattle.image.specs.Refusals.{not_written}
 use Rattle.image.specs.Image.{Listed, active_list, defunct_list, bytes_of_one, bytes_of_run, head_of, image_of, done, fitted, written_by, write_on}
 
 -- what is known of a kind without units
 pub record Plain {R : Type 0} (k due : ℕ) (c : Codec R) : Type 0 where
   pub row : Kind
-  pub known : row_of k ≡ Known row
+  pub known : row_of k ≡ Some row
   pub place : row.place ≡ due
   pub unit : row.unit ≡ 0
   pub base : row.base ≡ total c.layout + 2
@@ -89,35 +89,35 @@ pieces s a b c k m ea eb h =
     ∙ ap (splice s 0) (append_assoc a b c)
 
 -- ---- a writer that doesn't test writes what one that tests does
-pub stored_fits : (b out : List ℕ) → length b ≤ length out → done (W.Done (length b)) (N.stored out 0 b) ≡ fitted b out
+pub stored_fits : (b out : List ℕ) → length b ≤ length out → done (Ok (length b)) (N.stored out 0 b) ≡ fitted b out
 unfolding N.stored
 stored_fits b out h =
-    ap (done (W.Done (length b))) (cond_true _ _ _ (le-leb (0 + length b) (length out) (omega arith)) ∙ splice_front out b)
+    ap (done (Ok (length b))) (cond_true _ _ _ (le-leb (0 + length b) (length out) (omega arith)) ∙ splice_front out b)
     ∙ sym (cond_false _ _ _ (le-ltb (length out) (length b) h))
 
 -- the bytes that are stored without a test are those of a sound state's image
-pub sound_stored : (sp : Spare) (out : List ℕ) → broken_rule sp.state ≡ Sound → length (image_of (model_of sp.state) sp.expected) ≤ length out
-    → write_on sp out ≡ done (W.Done (length (image_of (model_of sp.state) sp.expected))) (N.stored out 0 (image_of (model_of sp.state) sp.expected))
+pub sound_stored : (sp : Spare) (out : List ℕ) → broken_rule sp.state ≡ Ok tt → length (image_of (model_of sp.state) sp.expected) ≤ length out
+    → write_on sp out ≡ done (Ok (length (image_of (model_of sp.state) sp.expected))) (N.stored out 0 (image_of (model_of sp.state) sp.expected))
 unfolding write_on
 sound_stored sp out q h =
     let b : List ℕ = image_of (model_of sp.state) sp.expected in
-    ap (λ (v : Verdict). written_by v b out) q ∙ sym (stored_fits b out h)
+    ap (λ (v : Result ⊤ Unsound). written_by v b out) q ∙ sym (stored_fits b out h)
 
 -- ---- what the code shows at each of its answers
-module _ (sp : Spare) (out : List ℕ) (v : Verdict) (ev : v ≡ broken_rule sp.state) where
+module _ (sp : Spare) (out : List ℕ) (v : Result ⊤ Unsound) (ev : v ≡ broken_rule sp.state) where
   abbrev image : List ℕ
   image = image_of (model_of sp.state) sp.expected
 
   told : written_by v image out ≡ write_on sp out
   unfolding write_on
-  told = ap (λ (x : Verdict). written_by x image out) ev
+  told = ap (λ (x : Result ⊤ Unsound). written_by x image out) ev
 
-  pub unsound : (n : ℕ) → v ≡ Broken n → done (W.UnsoundState n) out ≡ write_on sp out
-  unsound n q = ap (λ (x : Verdict). written_by x image out) (sym q) ∙ told
+  pub unsound : (u : Unsound) → v ≡ Err u → done (Err (not_written u)) out ≡ write_on sp out
+  unsound u q = ap (λ (x : Result ⊤ Unsound). written_by x image out) (sym q) ∙ told
 
-  module _ (q : v ≡ Sound) (t : Tidy sp.state) where
+  module _ (q : v ≡ Ok tt) (t : Tidy sp.state) where
     fits : fitted image out ≡ write_on sp out
-    fits = ap (λ (x : Verdict). written_by x image out) (sym q) ∙ told
+    fits = ap (λ (x : Result ⊤ Unsound). written_by x image out) (sym q) ∙ told
 
     abbrev needed : ℕ
     needed = 20 + sp.state.actives * 91 + sp.state.defuncts * 104
@@ -125,8 +125,8 @@ module _ (sp : Spare) (out : List ℕ) (v : Verdict) (ev : v ≡ broken_rule sp.
     image_size : length image ≡ needed
     image_size = length_image (model_of sp.state) sp.expected ∙ omega (arith, active_count sp.state t, defunct_count sp.state t)
 
-    pub short : length out < needed → done (W.ShortOutput needed) out ≡ write_on sp out
-    short h = ap (λ (n : ℕ). done (W.ShortOutput n) out) (sym image_size) ∙ sym (cond_true _ _ _ (lt-ltb (length out) (length image) (omega (arith, image_size)))) ∙ fits
+    pub short : length out < needed → done (Err (ShortOutput needed)) out ≡ write_on sp out
+    short h = ap (λ (n : ℕ). done (Err (ShortOutput n)) out) (sym image_size) ∙ sym (cond_true _ _ _ (lt-ltb (length out) (length image) (omega (arith, image_size)))) ∙ fits
 
-    pub whole : needed ≤ length out → (s : List ℕ) → s ≡ N.stored out 0 image → done (W.Done needed) s ≡ write_on sp out
-    whole h s e = ap₂ (λ (n : ℕ) (x : List ℕ). done (W.Done n) x) (sym image_size) e ∙ stored_fits image out (omega (arith, image_size)) ∙ fits
+    pub whole : needed ≤ length out → (s : List ℕ) → s ≡ N.stored out 0 image → done (Ok needed) s ≡ write_on sp out
+    whole h s e = ap₂ (λ (n : ℕ) (x : List ℕ). done (Ok n) x) (sym image_size) e ∙ stored_fits image out (omega (arith, image_size)) ∙ fits

@@ -6,11 +6,11 @@ use Rattle.state.specs.declared.ActiveLock.{ActiveLock}
 use Rattle.state.specs.declared.DefunctLock.{DefunctLock}
 use Rattle.state.specs.Locks.{akey, dkey, blank_active, blank_defunct}
 use Rattle.state.specs.Model.{Model, empty_model, model_of, state_of}
-use Rattle.rules.specs.declared.Verdict.{Verdict}
-use Rattle.rules.specs.declared.Verdict.TheVariants.{Sound, Broken}
+use Rattle.std.specs.Prelude.{Result, Ok, Err, ⊤}
+use Rattle.rules.specs.declared.Unsound.{Unsound}
 use Rattle.rules.specs.Rules.{broken_rule}
-use Rattle.records.specs.declared.frame.Framed.{Framed}
-use Rattle.records.specs.declared.frame.Framed.TheVariants as F
+use Rattle.records.specs.declared.frame.Unread.{Unread}
+use Rattle.records.specs.declared.frame.Frame.{Frame}
 use Rattle.records.specs.declared.bodies.Head.{Head}
 use Rattle.records.specs.Numbers.{part, bytes_of_all}
 use Rattle.records.specs.Codecs.{Codec, decode_by, encode_by}
@@ -19,29 +19,27 @@ use Rattle.records.specs.Framing.{frame_at, record_of}
 use Rattle.records.specs.Wire as wire
 use Rattle.image.specs.declared.Spare.{Spare}
 use Rattle.image.specs.declared.Imaged.{Imaged}
-use Rattle.image.specs.declared.Reading.{Reading}
-use Rattle.image.specs.declared.Reading.TheVariants.{Done, Torn, BadKind, BadField, BadOrder, UnsoundState}
-use Rattle.image.specs.declared.Writing.{Writing}
-use Rattle.image.specs.declared.Writing.TheVariants as W
+use Rattle.image.specs.declared.ImageRefusal.{ImageRefusal}
+use Rattle.image.specs.declared.ImageRefusal.TheVariants.{Torn, BadKind, BadField, BadOrder, UnsoundState}
+use Rattle.image.specs.declared.WriteRefusal.{WriteRefusal}
+use Rattle.image.specs.declared.WriteRefusal.TheVariants as W
+use Rattle.image.specs.Refusals.{unread, unsound, not_written}
 
--- what reading at a place gives: a refusal, or a value and the place after it
-pub data Got (A : Type 0) : Type 0 where
-  stopped : Reading → Got A
-  got : A → ℕ → Got A
+-- what reading at a place gives: a value and the place after it, or a refusal
+abbrev pub Got : Type 0 → Type 0
+Got A = Result (A × ℕ) ImageRefusal
 
 module _ {A B : Type 0} where
   unfoldable pub and_then : Got A → (A → ℕ → Got B) → Got B
-  and_then (stopped x) f = stopped x
-  and_then (got a n) f = f a n
+  and_then (Err x) f = Err x
+  and_then (Ok (a, n)) f = f a n
 
 -- ---- a record
 module _ {R : Type 0} (c : Codec R) where
   -- a record that starts at `at` is read whole, else the refusal holds `at`
-  abbrev pub of_frame : List ℕ → ℕ → Framed → Got R
-  of_frame s at (F.Torn x) = stopped (Torn x)
-  of_frame s at (F.BadKind x) = stopped (BadKind x)
-  of_frame s at (F.BadField x) = stopped (BadField x)
-  of_frame s at (F.Record f) = decode_by c (λ r. got r f.next) (stopped (BadField at)) (part s f.start f.size)
+  abbrev pub of_frame : List ℕ → ℕ → Result Frame Unread → Got R
+  of_frame s at (Err u) = Err (unread u)
+  of_frame s at (Ok f) = decode_by c (λ r. Ok (r, f.next)) (Err (BadField at)) (part s f.start f.size)
 
   -- the record at `at`, where a kind of this place is due
   unfoldable pub record_at : ℕ → List ℕ → ℕ → Got R
@@ -68,16 +66,16 @@ low_after strict k = cond strict (suc k) k
 
 module _ {R : Type 0} (e : Listed R) where
   abbrev pub ahead : R → Got (List R) → Got (List R)
-  ahead r (stopped x) = stopped x
-  ahead r (got rs n) = got (r ∷ rs) n
+  ahead r (Err x) = Err x
+  ahead r (Ok (rs, n)) = Ok (r ∷ rs, n)
 
   module _ (strict : Bool) where
     -- n records from `at` on, the first with an id from low on, each with an id that may follow the one before it
     unfoldable pub run_at : List ℕ → ℕ → ℕ → ℕ → Got (List R)
-    run_at s zero low at = got [] at
+    run_at s zero low at = Ok ([], at)
     run_at s (suc n) low at =
         and_then (record_at e.codec e.place s at)
-        (λ r next. cond (ltb (e.id r) low) (stopped (BadOrder at)) (ahead r (run_at s n (low_after strict (e.id r)) next)))
+        (λ r next. cond (ltb (e.id r) low) (Err (BadOrder at)) (ahead r (run_at s n (low_after strict (e.id r)) next)))
 
 -- ---- the whole image: its lists and the expected number
 pub record Held : Type 0 where
@@ -92,7 +90,7 @@ unfoldable pub lists_at : Bool → List ℕ → Head → ℕ → Got Held
 lists_at strict s h at =
     and_then (run_at active_list strict s h.actives 0 at)
     (λ xs next. and_then (run_at defunct_list strict s h.defuncts 0 next)
-    (λ ys end. cond (ltb end (length s)) (stopped (BadOrder end)) (got (held_of h xs ys) end)))
+    (λ ys end. cond (ltb end (length s)) (Err (BadOrder end)) (Ok (held_of h xs ys, end))))
 
 unfoldable pub held_by : Bool → List ℕ → Got Held
 held_by strict s = and_then (record_at wire.head at_head s 0) (lists_at strict s)
@@ -107,29 +105,25 @@ spare_of h = record { state = state_of h.model; expected = h.expected }
 abbrev pub no_spare : Spare
 no_spare = spare_of record { model = empty_model; expected = 0 }
 
-abbrev pub refusal : Reading → Imaged
-refusal x = record { told = x; spare = no_spare }
+abbrev pub refusal : ImageRefusal → Imaged
+refusal x = record { told = Err x; spare = no_spare }
 
 abbrev pub imaged : Got Held → Imaged
-imaged (stopped x) = refusal x
-imaged (got h n) = record { told = Done; spare = spare_of h }
+imaged (Err x) = refusal x
+imaged (Ok (h, n)) = record { told = Ok tt; spare = spare_of h }
 
 -- the first half: what the records say, sound or not
 unfoldable pub records_of : List ℕ → Imaged
 records_of s = imaged (held_in s)
 
 -- then the sound-state test
-abbrev pub judged : Imaged → Verdict → Imaged
-judged i Sound = i
-judged i (Broken n) = refusal (UnsoundState n)
+abbrev pub judged : Imaged → Result ⊤ Unsound → Imaged
+judged i (Ok tt) = i
+judged i (Err u) = refusal (unsound u)
 
-abbrev pub tested : Imaged → Reading → Imaged
-tested i Done = judged i (broken_rule i.spare.state)
-tested i (Torn x) = i
-tested i (BadKind x) = i
-tested i (BadField x) = i
-tested i (BadOrder x) = i
-tested i (UnsoundState x) = i
+abbrev pub tested : Imaged → Result ⊤ ImageRefusal → Imaged
+tested i (Ok tt) = judged i (broken_rule i.spare.state)
+tested i (Err x) = i
 
 unfoldable pub read_on : List ℕ → Imaged
 read_on s = tested (records_of s) (records_of s).told
@@ -150,34 +144,34 @@ image_of m n = record_of 1 (encode_by wire.head (head_of m n)) ++ (bytes_of_run 
 
 -- the answer, and the buffer as the call leaves it
 pub record Written : Type 0 where
-  pub told : Writing
+  pub told : Result ℕ WriteRefusal
   pub out : List ℕ
 
-abbrev pub done : Writing → List ℕ → Written
+abbrev pub done : Result ℕ WriteRefusal → List ℕ → Written
 done t out = record { told = t; out = out }
 
 -- the bytes from the buffer's start on; the bytes past them stay
 abbrev pub fitted : List ℕ → List ℕ → Written
-fitted b out = cond (ltb (length out) (length b)) (done (W.ShortOutput (length b)) out) (done (W.Done (length b)) (b ++ drop (length b) out))
+fitted b out = cond (ltb (length out) (length b)) (done (Err (W.ShortOutput (length b))) out) (done (Ok (length b)) (b ++ drop (length b) out))
 
-abbrev pub written_by : Verdict → List ℕ → List ℕ → Written
-written_by Sound b out = fitted b out
-written_by (Broken n) b out = done (W.UnsoundState n) out
+abbrev pub written_by : Result ⊤ Unsound → List ℕ → List ℕ → Written
+written_by (Ok tt) b out = fitted b out
+written_by (Err u) b out = done (Err (not_written u)) out
 
 -- 12, then 21, then the bytes
 unfoldable pub write_on : Spare → List ℕ → Written
 write_on sp out = written_by (broken_rule sp.state) (image_of (model_of sp.state) sp.expected) out
 
 -- ---- on paper: "17..20 Torn, BadKind, BadField, BadOrder (added), offset"; "21 ShortOutput (added), bytes needed"
-unfoldable pub reading_paper : Reading → Paper
-reading_paper Done = paper 0 []
-reading_paper (Torn at) = paper 17 (at ∷ [])
-reading_paper (BadKind at) = paper 18 (at ∷ [])
-reading_paper (BadField at) = paper 19 (at ∷ [])
-reading_paper (BadOrder at) = paper 20 (at ∷ [])
-reading_paper (UnsoundState rule) = paper 12 (rule ∷ [])
+unfoldable pub reading_paper : Result ⊤ ImageRefusal → Paper
+reading_paper (Ok tt) = paper 0 []
+reading_paper (Err (Torn at)) = paper 17 (at ∷ [])
+reading_paper (Err (BadKind at)) = paper 18 (at ∷ [])
+reading_paper (Err (BadField at)) = paper 19 (at ∷ [])
+reading_paper (Err (BadOrder at)) = paper 20 (at ∷ [])
+reading_paper (Err (UnsoundState rule)) = paper 12 (rule ∷ [])
 
-unfoldable pub writing_paper : Writing → Paper
-writing_paper (W.Done bytes) = paper 0 (bytes ∷ [])
-writing_paper (W.UnsoundState rule) = paper 12 (rule ∷ [])
-writing_paper (W.ShortOutput bytes) = paper 21 (bytes ∷ [])
+unfoldable pub writing_paper : Result ℕ WriteRefusal → Paper
+writing_paper (Ok bytes) = paper 0 (bytes ∷ [])
+writing_paper (Err (W.UnsoundState rule)) = paper 12 (rule ∷ [])
+writing_paper (Err (W.ShortOutput bytes)) = paper 21 (bytes ∷ [])

@@ -2,9 +2,15 @@
 // SPDX-License-Identifier: Apache-2.0
 #![tactic(auto)]
 
+ghost use Rattle.std.specs.Prelude.{◌≡◌};
+ghost use Rattle.image.specs.Refusals.{unread, unsound, not_written};
+
+use records::frame::Unread;
 use records::layout;
+use rules::Unsound;
 use state::LockState;
 
+mod entries;
 pub mod read;
 pub mod reader;
 pub mod write;
@@ -21,10 +27,10 @@ pub struct Spare {
     pub expected: u32,
 }
 
-// 17 to 20 hold an offset: where the record starts, or the first byte past the last one. UnsoundState (12) holds the rule.
-#[derive(Clone, Copy)]
-pub enum Reading {
-    Done,
+// Why an image is refused. 17 to 20 hold an offset: where the record starts, or the first byte past the last one.
+// UnsoundState (12) holds the rule.
+#[derive(Clone, Copy, PartialEq, Eq)]
+pub enum ImageRefusal {
     Torn(usize),
     BadKind(usize),
     BadField(usize),
@@ -32,17 +38,49 @@ pub enum Reading {
     UnsoundState(u8),
 }
 
-// After a refusal the spare is empty.
+impl From<Unread> for ImageRefusal {
+    ghost from_gives = { λ u r. r ≡ unread u };
+
+    fn from(u: Unread) -> ImageRefusal {
+        match u {
+            Unread::Torn(at) => ImageRefusal::Torn(at),
+            Unread::BadKind(at) => ImageRefusal::BadKind(at),
+            Unread::BadField(at) => ImageRefusal::BadField(at),
+        }
+    }
+}
+
+impl From<Unsound> for ImageRefusal {
+    ghost from_gives = { λ u r. r ≡ unsound u };
+
+    fn from(u: Unsound) -> ImageRefusal {
+        match u {
+            Unsound::Rule(n) => ImageRefusal::UnsoundState(n),
+        }
+    }
+}
+
+// After a refusal the spare is empty. No Result: that empty spare is what `proofs/Trips.antt`, no_spare_lem, and
+// docs/PROMISES.md, read_records and read_image, speak of.
 #[derive(Clone, Copy)]
 pub struct Imaged {
-    pub told: Reading,
+    pub told: Result<(), ImageRefusal>,
     pub spare: Spare,
 }
 
-// Done holds the bytes written, ShortOutput (21) those needed.
-#[derive(Clone, Copy)]
-pub enum Writing {
-    Done(usize),
+// Why no image is written. UnsoundState (12) holds the rule, ShortOutput (21) the bytes needed.
+#[derive(Clone, Copy, PartialEq, Eq)]
+pub enum WriteRefusal {
     UnsoundState(u8),
     ShortOutput(usize),
+}
+
+impl From<Unsound> for WriteRefusal {
+    ghost from_gives = { λ u r. r ≡ not_written u };
+
+    fn from(u: Unsound) -> WriteRefusal {
+        match u {
+            Unsound::Rule(n) => WriteRefusal::UnsoundState(n),
+        }
+    }
 }

@@ -1,57 +1,32 @@
 // An image read: first its records, then the sound-state test.
 // SPDX-License-Identifier: Apache-2.0
-ghost use Rattle.std.specs.Prelude.{◌≡◌};
-ghost use Rattle.records.specs.Table.{at_head};
-ghost use Rattle.records.specs.Wire as wire;
-ghost use Rattle.image.specs.Image.{record_at, imaged, active_list, defunct_list, refusal, held_by, records_of, read_on};
-ghost use Rattle.image.specs.Steps.{active_step, defunct_step};
-ghost use Rattle.image.specs.Code.{is_done, out_of_order, next_of, begun_by, ended_at, placed};
+ghost use Rattle.std.specs.Prelude.{◌≡◌, length};
+ghost use Rattle.image.specs.Image.{run_at, spare_of, no_spare, imaged, refusal, held_by, records_of, read_on};
+ghost use Rattle.image.specs.Code.{on_ok, out_of_order, next_of};
 
-use crate::reader::{ActiveStep, DefunctStep, HeadStep};
-use crate::{Imaged, Reading, Spare, reader};
+use crate::entries::Entry;
+use crate::reader::record_from;
+use crate::{ImageRefusal, Imaged, Spare};
 use ids::LockId;
 use records::bodies::Head;
-use rules::Verdict;
-use state::{ActiveLock, DefunctLock, LockState};
+use state::LockState;
 
-// HEAD and the place after it, or why there is none.
-#[derive(Clone, Copy)]
-struct Begun {
-    told: Reading,
-    head: Head,
-    at: usize,
-}
-
-const NO_HEAD: Head = Head {
-    revision: 0,
-    expected: 0,
-    actives: 0,
-    defuncts: 0,
-};
-
-fn is_done(r: Reading) -> bool
-    ensures { result ≡ is_done r }
+fn no_spare() -> Spare
+    ensures { result ≡ no_spare }
 {
-    match r {
-        Reading::Done => true,
-        Reading::Torn(_) => false,
-        Reading::BadKind(_) => false,
-        Reading::BadField(_) => false,
-        Reading::BadOrder(_) => false,
-        Reading::UnsoundState(_) => false,
+    Spare {
+        state: LockState::empty(),
+        expected: 0,
     }
 }
 
-fn refused(why: Reading) -> Imaged
-    ensures { result ≡ refusal why }
+// A refusal leaves no state. Never inlined: its empty spare would take a place of its own in each reader's frame.
+#[inline(never)]
+fn refuse(r: &mut Imaged, why: ImageRefusal)
+    ensures { r.new ≡ refusal why }
 {
-    Imaged {
-        told: why,
-        spare: Spare {
-            state: LockState::empty(),
-            expected: 0,
-        },
-    }
+    r.told = Err(why);
+    r.spare = no_spare();
 }
 
 // Whether id may not follow last: where ids needn't strictly ascend, it still must not fall.
@@ -65,138 +40,74 @@ fn out_of_order(strict: bool, last: LockId, id: LockId) -> bool
 }
 
 // The next record of a run, after i others whose last id is `last`.
-fn active_after(image: &[u8], at: usize, strict: bool, i: usize, last: LockId) -> ActiveStep
-    ensures { result ≡ active_step (next_of active_list strict image.now at i last) }
+fn record_after<R: Entry>(
+    image: &[u8],
+    at: usize,
+    strict: bool,
+    i: usize,
+    last: LockId,
+) -> Result<(R, usize), ImageRefusal>
+    ensures { result ≡ next_of R.list strict image.now at i last }
 {
-    match reader::active_from(image, at) {
-        ActiveStep::Read(a, next) => {
-            let id = a.lock.id;
-            if (0 < i) & out_of_order(strict, last, id) {
-                return ActiveStep::Refused(Reading::BadOrder(at));
-            }
-            ActiveStep::Read(a, next)
-        }
-        ActiveStep::Refused(why) => ActiveStep::Refused(why),
+    let (r, next) = record_from::<R>(image, at)?;
+    if (0 < i) & out_of_order(strict, last, r.id()) {
+        return Err(ImageRefusal::BadOrder(at));
     }
+    Ok((r, next))
 }
 
-fn defunct_after(image: &[u8], at: usize, strict: bool, i: usize, last: LockId) -> DefunctStep
-    ensures { result ≡ defunct_step (next_of defunct_list strict image.now at i last) }
+// A run of records from `at` on, each into its place, and the place after the last of them.
+fn run_from<R: Entry>(
+    image: &[u8],
+    at: usize,
+    strict: bool,
+    places: &mut [R],
+) -> Result<usize, ImageRefusal>
+    ensures { on_ok (λ n. (places.new, n)) result ≡ run_at R.list strict image.now (length places.old) 0 at }
 {
-    match reader::defunct_from(image, at) {
-        DefunctStep::Read(d, next) => {
-            let id = d.lock.id;
-            if (0 < i) & out_of_order(strict, last, id) {
-                return DefunctStep::Refused(Reading::BadOrder(at));
-            }
-            DefunctStep::Read(d, next)
-        }
-        DefunctStep::Refused(why) => DefunctStep::Refused(why),
+    let mut last = LockId { hi: 0, lo: 0 };
+    let mut next = at;
+    for (i, place) in places.iter_mut().enumerate() {
+        let (r, past) = record_after::<R>(image, next, strict, i, last)?;
+        *place = r;
+        last = r.id();
+        next = past;
     }
+    Ok(next)
 }
 
-fn begin(image: &[u8]) -> Begun
-    ensures { result ≡ begun_by (record_at wire.head at_head image.now 0) }
+// HEAD and both lists, each record read into its place in the empty spare, and nothing after them.
+fn lists_from(image: &[u8], strict: bool, spare: &mut Spare) -> Result<(), ImageRefusal>
+    requires { spare.old ≡ no_spare }
+    ensures { on_ok (λ u. spare.new) result ≡ on_ok (λ g. spare_of g.0) (held_by strict image.now) }
 {
-    match reader::head_from(image, 0) {
-        HeadStep::Read(head, at) => Begun {
-            told: Reading::Done,
-            head,
-            at,
-        },
-        HeadStep::Refused(why) => Begun {
-            told: why,
-            head: NO_HEAD,
-            at: 0,
-        },
+    let (head, first) = record_from::<Head>(image, 0)?;
+    let actives = head.actives as usize;
+    let defuncts = head.defuncts as usize;
+    let second = run_from(image, first, strict, &mut spare.state.active[..actives])?;
+    let end = run_from(image, second, strict, &mut spare.state.defunct[..defuncts])?;
+    if end < image.len() {
+        return Err(ImageRefusal::BadOrder(end));
     }
+    spare.state.revision = head.revision;
+    spare.state.actives = actives;
+    spare.state.defuncts = defuncts;
+    spare.expected = head.expected;
+    Ok(())
 }
 
-// Where reading went well up to `at`, whether it ends there.
-fn at_end(told: Reading, at: usize, end: usize) -> Reading
-    ensures { result ≡ ended_at told at end }
-{
-    if is_done(told) & (at < end) {
-        return Reading::BadOrder(at);
-    }
-    told
-}
-
-fn held(
-    told: Reading,
-    h: Head,
-    active: [ActiveLock; LockState::ACTIVE],
-    defunct: [DefunctLock; LockState::DEFUNCT],
-) -> Imaged
-    ensures { result ≡ placed told h active defunct }
-{
-    Imaged {
-        told,
-        spare: Spare {
-            state: LockState {
-                revision: h.revision,
-                active,
-                actives: h.actives as usize,
-                defunct,
-                defuncts: h.defuncts as usize,
-            },
-            expected: h.expected,
-        },
-    }
-}
-
-// The records alone, their ids in strict order or only not falling. Both lists are read into their places here, and a refusal
-// leaves by the same way out: a function for each list and a return for each refusal would copy them.
+// The records alone, their ids in strict order or only not falling.
 fn records_by(image: &[u8], strict: bool) -> Imaged
     ensures { result ≡ imaged (held_by strict image.now) }
 {
-    let begun = begin(image);
-    let mut told = begun.told;
-    let mut head = begun.head;
-    let mut actives = head.actives as usize;
-    let mut defuncts = head.defuncts as usize;
-    let mut active = [state::blank_active(); LockState::ACTIVE];
-    let mut last = LockId { hi: 0, lo: 0 };
-    let mut at = begun.at;
-    let mut i: usize = 0;
-    while i < actives {
-        match active_after(image, at, strict, i, last) {
-            ActiveStep::Read(a, next) => {
-                active[i] = a;
-                last = a.lock.id;
-                at = next;
-                i += 1;
-            }
-            ActiveStep::Refused(why) => {
-                told = why;
-                actives = 0;
-                defuncts = 0;
-            }
-        }
+    let mut r = Imaged {
+        told: Ok(()),
+        spare: no_spare(),
+    };
+    if let Err(why) = lists_from(image, strict, &mut r.spare) {
+        refuse(&mut r, why);
     }
-    let mut defunct = [state::blank_defunct(); LockState::DEFUNCT];
-    i = 0;
-    while i < defuncts {
-        match defunct_after(image, at, strict, i, last) {
-            DefunctStep::Read(d, next) => {
-                defunct[i] = d;
-                last = d.lock.id;
-                at = next;
-                i += 1;
-            }
-            DefunctStep::Refused(why) => {
-                told = why;
-                defuncts = 0;
-            }
-        }
-    }
-    told = at_end(told, at, image.len());
-    if !is_done(told) {
-        head = NO_HEAD;
-        active = [state::blank_active(); LockState::ACTIVE];
-        defunct = [state::blank_defunct(); LockState::DEFUNCT];
-    }
-    held(told, head, active, defunct)
+    r
 }
 
 // The first half: the records alone, without the sound-state test.
@@ -210,14 +121,9 @@ pub fn read_image(image: &[u8]) -> Imaged
     ensures { result ≡ read_on image.now }
 {
     let mut r = read_records(image);
-    let told = r.told;
-    if !is_done(told) {
-        return r;
-    }
-    match rules::broken(r.spare.state) {
-        Verdict::Sound => {}
-        Verdict::Broken(n) => {
-            r = refused(Reading::UnsoundState(n));
+    if r.told.is_ok() {
+        if let Err(why) = rules::broken(r.spare.state) {
+            refuse(&mut r, ImageRefusal::from(why));
         }
     }
     r

@@ -1,45 +1,33 @@
 // One record of an image at a time: where the next one's body stands, a reader that keeps the image and its place, and what
-// the record says, a function for each kind.
+// the record says, of each kind.
 // SPDX-License-Identifier: Apache-2.0
-ghost use Rattle.std.specs.Prelude.{◌≡◌};
-ghost use Rattle.image.specs.Steps.{place_of, stay, step_of, head_at, active_at, defunct_at};
+ghost use Rattle.std.specs.Prelude.{◌≡◌, Some, None};
+ghost use Rattle.records.specs.Codecs.{Codec, decode_by};
+ghost use Rattle.records.specs.Wire as wire;
+ghost use Rattle.image.specs.declared.reader.Due.{Due};
+ghost use Rattle.image.specs.Image.{record_at};
+ghost use Rattle.image.specs.Steps.{place_of, step_of};
 ghost use Rattle.image.specs.Held.{start_of, moved_of};
 
-use crate::Reading;
-use records::bodies::{ActiveRead, DefunctRead, Head, HeadRead};
-use records::frame::Framed;
+use crate::ImageRefusal;
+use records::bodies::Head;
 use records::{bodies, frame, kinds};
 use state::{ActiveLock, DefunctLock};
 
-// Which record is due.
-#[derive(Clone, Copy)]
+// Which record is due. An enum of its own beside the four numbers of records::kinds, which `frame_at` takes: an image has no
+// record of a feed, and docs/SENTENCES.md's step_of and moved_of speak of these three.
+#[derive(Clone, Copy, PartialEq, Eq)]
 pub enum Due {
     Head,
     Active,
     Defunct,
 }
 
-// A body, from its first byte to the place past its last.
-#[derive(Clone, Copy)]
-pub enum Step {
-    Body(usize, usize),
-    Refused(Reading),
-}
-
-// at: past the record, or after a refusal where it started.
+// step: the body, from its first byte to the place past its last. at: past the record, or after a refusal where it started.
 #[derive(Clone, Copy)]
 pub struct Stepped {
-    pub step: Step,
+    pub step: Result<(usize, usize), ImageRefusal>,
     pub at: usize,
-}
-
-fn refused(why: Reading, at: usize) -> Stepped
-    ensures { result ≡ stay why at }
-{
-    Stepped {
-        step: Step::Refused(why),
-        at,
-    }
 }
 
 fn place_of(due: Due) -> u8
@@ -52,21 +40,19 @@ fn place_of(due: Due) -> u8
     }
 }
 
-fn record_at(image: &[u8], at: usize, due: Due) -> Stepped
+// Plain parameters: for loops, and for whoever keeps the place as a number.
+pub fn step_from(image: &[u8], at: usize, due: Due) -> Stepped
     ensures { result ≡ step_of image.now at due }
 {
     match frame::frame_at(image, at, place_of(due)) {
-        Framed::Torn(x) => refused(Reading::Torn(x), at),
-        Framed::BadKind(x) => refused(Reading::BadKind(x), at),
-        Framed::BadField(x) => refused(Reading::BadField(x), at),
-        Framed::Record(f) => {
-            let start = f.start;
-            let end = start + f.size;
-            Stepped {
-                step: Step::Body(start, end),
-                at: f.next,
-            }
-        }
+        Err(why) => Stepped {
+            step: Err(ImageRefusal::from(why)),
+            at,
+        },
+        Ok(f) => Stepped {
+            step: Ok((f.start, f.start + f.size)),
+            at: f.next,
+        },
     }
 }
 
@@ -81,7 +67,7 @@ pub struct Reader<'a> {
 #[derive(Clone, Copy)]
 pub struct Moved<'a> {
     pub reader: Reader<'a>,
-    pub step: Step,
+    pub step: Result<(usize, usize), ImageRefusal>,
 }
 
 pub fn new<'a>(image: &'a [u8]) -> Reader<'a>
@@ -93,85 +79,79 @@ pub fn new<'a>(image: &'a [u8]) -> Reader<'a>
 pub fn next<'a>(r: Reader<'a>, due: Due) -> Moved<'a>
     ensures { result ≡ moved_of r.entry due }
 {
-    let image = r.image;
-    let at = r.at;
-    let g = record_at(image, at, due);
-    let step = g.step;
+    let g = step_from(r.image, r.at, due);
     Moved {
-        reader: Reader { image, at: g.at },
-        step,
-    }
-}
-
-// Plain parameters: for loops, and for whoever keeps the place as a number.
-pub fn step_from(image: &[u8], at: usize, due: Due) -> Stepped
-    ensures { result ≡ step_of image.now at due }
-{
-    let m = next(Reader { image, at }, due);
-    let step = m.step;
-    Stepped {
-        step,
-        at: m.reader.at,
-    }
-}
-
-// A record of each kind that was due, and the place after it.
-#[derive(Clone, Copy)]
-pub enum HeadStep {
-    Read(Head, usize),
-    Refused(Reading),
-}
-
-#[derive(Clone, Copy)]
-pub enum ActiveStep {
-    Read(ActiveLock, usize),
-    Refused(Reading),
-}
-
-#[derive(Clone, Copy)]
-pub enum DefunctStep {
-    Read(DefunctLock, usize),
-    Refused(Reading),
-}
-
-pub fn head_from(image: &[u8], at: usize) -> HeadStep
-    ensures { result ≡ head_at image.now at }
-{
-    let got = step_from(image, at, Due::Head);
-    let step = got.step;
-    match step {
-        Step::Body(start, end) => match bodies::decode_head(&image[start..end]) {
-            HeadRead::Good(h) => HeadStep::Read(h, got.at),
-            HeadRead::BadField => HeadStep::Refused(Reading::BadField(at)),
+        reader: Reader {
+            image: r.image,
+            at: g.at,
         },
-        Step::Refused(why) => HeadStep::Refused(why),
+        step: g.step,
     }
 }
 
-pub fn active_from(image: &[u8], at: usize) -> ActiveStep
-    ensures { result ≡ active_at image.now at }
-{
-    let got = step_from(image, at, Due::Active);
-    let step = got.step;
-    match step {
-        Step::Body(start, end) => match bodies::decode_active(&image[start..end]) {
-            ActiveRead::Good(a) => ActiveStep::Read(a, got.at),
-            ActiveRead::BadField => ActiveStep::Refused(Reading::BadField(at)),
-        },
-        Step::Refused(why) => ActiveStep::Refused(why),
+// A kind of record of an image: where it is due, and how its body is read. No body: a count or field is wrong (19).
+pub trait Kept: Copy {
+    ghost due_of: { Due };
+
+    ghost codec: { Codec Self };
+
+    fn due() -> Due
+        ensures { result ≡ due_of };
+
+    fn decode(body: &[u8]) -> Option<Self>
+        ensures { result ≡ decode_by codec Some None body.now };
+}
+
+impl Kept for Head {
+    ghost due_of = { Due.Head };
+
+    ghost codec = { wire.head };
+
+    fn due() -> Due {
+        Due::Head
+    }
+
+    fn decode(body: &[u8]) -> Option<Head> {
+        bodies::decode_head(body)
     }
 }
 
-pub fn defunct_from(image: &[u8], at: usize) -> DefunctStep
-    ensures { result ≡ defunct_at image.now at }
+impl Kept for ActiveLock {
+    ghost due_of = { Due.Active };
+
+    ghost codec = { wire.active };
+
+    fn due() -> Due {
+        Due::Active
+    }
+
+    fn decode(body: &[u8]) -> Option<ActiveLock> {
+        bodies::decode_active(body)
+    }
+}
+
+impl Kept for DefunctLock {
+    ghost due_of = { Due.Defunct };
+
+    ghost codec = { wire.defunct };
+
+    fn due() -> Due {
+        Due::Defunct
+    }
+
+    fn decode(body: &[u8]) -> Option<DefunctLock> {
+        bodies::decode_defunct(body)
+    }
+}
+
+// The record of this kind at `at`, and the place after it.
+pub fn record_from<R: Kept>(image: &[u8], at: usize) -> Result<(R, usize), ImageRefusal>
+    ensures { result ≡ record_at R.codec (place_of R.due_of) image.now at }
 {
-    let got = step_from(image, at, Due::Defunct);
-    let step = got.step;
-    match step {
-        Step::Body(start, end) => match bodies::decode_defunct(&image[start..end]) {
-            DefunctRead::Good(d) => DefunctStep::Read(d, got.at),
-            DefunctRead::BadField => DefunctStep::Refused(Reading::BadField(at)),
-        },
-        Step::Refused(why) => DefunctStep::Refused(why),
+    let got = step_from(image, at, R::due());
+    let (start, end) = got.step?;
+    match R::decode(&image[start..end]) {
+        Some(r) => Ok((r, got.at)),
+        None => Err(ImageRefusal::BadField(at)),
     }
 }

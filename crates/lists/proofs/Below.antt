@@ -4,7 +4,7 @@
 use mathlib.Core.Path.{◌≡◌, refl, sym, subst, ap, ap₂, ◌∙◌}
 use mathlib.Core.Logic.{⊎_elim}
 use mathlib.Core.Bool.{Bool, true, false, cond, false≢true}
-use mathlib.Core.Option.{Option, none, some}
+use Rattle.std.specs.Prelude.{Option, None, Some}
 use Prim.Native.Nat.{ℕ, zero, suc, ◌+◌, ◌*◌, ◌/◌, ◌%◌, ◌<◌}
 use native.Mathlib.Nat.{le_step, lt-suc_self, div-lt_iff_lt-mul, mod-lt}
 use native.Mathlib.Decide.{ℕ_discrete}
@@ -64,29 +64,29 @@ any_same (suc n) f g h = rw (h n (omega arith), any_same n f g (λ k l. h k (ome
 -- ---- the lowest number below n that passes
 -- o says which it is
 abbrev pub IsLowest : ℕ → (ℕ → Bool) → Option ℕ → Type 0
-IsLowest n f none = (k : ℕ) → k < n → f k ≡ false
-IsLowest n f (some t) = (t < n) × (f t ≡ true) × ((k : ℕ) → k < t → f k ≡ false)
+IsLowest n f None = (k : ℕ) → k < n → f k ≡ false
+IsLowest n f (Some t) = (t < n) × (f t ≡ true) × ((k : ℕ) → k < t → f k ≡ false)
 
 pub lowest_is : (n : ℕ) (f : ℕ → Bool) → IsLowest n f (lowest_below n f)
 unfolding lowest_below
 lowest_is zero f = λ k h. absurd (omega arith)
 lowest_is (suc n) f = go (lowest_below n f) (lowest_is n f) (f n) refl
   where
-    go : (o : Option ℕ) → IsLowest n f o → (b : Bool) → f n ≡ b → IsLowest (suc n) f (or_else o (cond b (some n) none))
-    go (some t) r b e = (le_step r.0, r.1, r.2)
-    go none r true e = (lt-suc_self n, e, r)
-    go none r false e = λ k h. elim (ℕ_discrete k n) [ yes q ↦ subst (λ (j : ℕ). f j ≡ false) (sym q) e | no q ↦ r k (omega arith) ]
+    go : (o : Option ℕ) → IsLowest n f o → (b : Bool) → f n ≡ b → IsLowest (suc n) f (or_else o (cond b (Some n) None))
+    go (Some t) r b e = (le_step r.0, r.1, r.2)
+    go None r true e = (lt-suc_self n, e, r)
+    go None r false e = λ k h. elim (ℕ_discrete k n) [ yes q ↦ subst (λ (j : ℕ). f j ≡ false) (sym q) e | no q ↦ r k (omega arith) ]
 
 -- and nothing else is
 pub lowest_one : (n : ℕ) (f : ℕ → Bool) (o : Option ℕ) → IsLowest n f o → lowest_below n f ≡ o
 lowest_one n f o r = go (lowest_below n f) o (lowest_is n f) r
   where
     go : (o p : Option ℕ) → IsLowest n f o → IsLowest n f p → o ≡ p
-    go none none r s = refl
-    go none (some t) r s = absurd (against (r t s.0) s.1)
-    go (some t) none r s = absurd (against (s t r.0) r.1)
-    go (some t) (some u) r s = elim (ℕ_discrete t u) [
-      | yes e ↦ ap some e
+    go None None r s = refl
+    go None (Some t) r s = absurd (against (r t s.0) s.1)
+    go (Some t) None r s = absurd (against (s t r.0) r.1)
+    go (Some t) (Some u) r s = elim (ℕ_discrete t u) [
+      | yes e ↦ ap Some e
       | no e ↦ absurd (by (ltb t u) ⊥
           (λ q. against (s.2 t (ltb-true t u q)) r.1)
           (λ q. against (r.2 u (omega (arith, ltb-false t u q))) s.1))

@@ -3,7 +3,7 @@
 use mathlib.Core.Bool.{Bool, true, false, cond}
 use mathlib.Core.List.Memᴰ
 use mathlib.Core.List.{List, [], ◌∷◌, map}
-use mathlib.Core.Option.{none, some}
+use Rattle.std.specs.Prelude.{None, Some}
 use mathlib.Core.Path.{◌≡◌, refl, ap}
 use Prim.Native.Nat.{ℕ, suc, ◌+◌, ◌≤◌, ◌<◌, zero-le, suc-le-suc}
 use native.Mathlib.Numerals.{add-one}
@@ -57,19 +57,19 @@ module _ {A : Type 0} (p : A → Bool) where
       go true e h = rw (at_place x xs true e) zero-le
       go false e h = rw (at_place x xs false e) (suc-le-suc h)
 
-  pub find_place : (l : List A) (d : A) → place_of l 0 < length l → find p l ≡ some (get_or l (place_of l 0) d)
+  pub find_place : (l : List A) (d : A) → place_of l 0 < length l → find p l ≡ Some (get_or l (place_of l 0) d)
   find_place [] d h = absurd (omega arith)
   find_place (x ∷ xs) d h = go (p x) refl h (find_place xs d)
     where
-      go : (b : Bool) → p x ≡ b → place_of (x ∷ xs) 0 < suc (length xs) → (place_of xs 0 < length xs → find p xs ≡ some (get_or xs (place_of xs 0) d)) → cond b (some x) (find p xs) ≡ some (get_or (x ∷ xs) (place_of (x ∷ xs) 0) d)
+      go : (b : Bool) → p x ≡ b → place_of (x ∷ xs) 0 < suc (length xs) → (place_of xs 0 < length xs → find p xs ≡ Some (get_or xs (place_of xs 0) d)) → cond b (Some x) (find p xs) ≡ Some (get_or (x ∷ xs) (place_of (x ∷ xs) 0) d)
       go true e g r = rw (at_place x xs true e)
       go false e g r = rw (at_place x xs false e) (r (omega (arith, rw (at_place x xs false e) at g)))
 
-  pub find_nowhere : (l : List A) → place_of l 0 ≡ length l → find p l ≡ none
+  pub find_nowhere : (l : List A) → place_of l 0 ≡ length l → find p l ≡ None
   find_nowhere [] h = refl
   find_nowhere (x ∷ xs) h = go (p x) refl h (find_nowhere xs)
     where
-      go : (b : Bool) → p x ≡ b → place_of (x ∷ xs) 0 ≡ suc (length xs) → (place_of xs 0 ≡ length xs → find p xs ≡ none) → cond b (some x) (find p xs) ≡ none
+      go : (b : Bool) → p x ≡ b → place_of (x ∷ xs) 0 ≡ suc (length xs) → (place_of xs 0 ≡ length xs → find p xs ≡ None) → cond b (Some x) (find p xs) ≡ None
       go true e g r = absurd (omega (arith, rw (at_place x xs true e) at g))
       go false e g r = r (omega (arith, rw (at_place x xs false e) at g))
 

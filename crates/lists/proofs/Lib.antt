@@ -7,3 +7,5 @@ pub mod Shifts
 pub mod First
 pub mod Further
 pub mod Papers
+pub mod Options
+pub mod Std

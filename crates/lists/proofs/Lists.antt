@@ -5,7 +5,9 @@ use mathlib.Core.Bool.{Bool, true, false, cond, false≢true}
 use mathlib.Core.List.Memᴰ
 use mathlib.Core.List.{List, [], ◌∷◌, map, Memᴰ}
 use mathlib.Core.Option
-use mathlib.Core.Option.{Option, none, some, none-ne-some, some-ne-none, some-injective}
+use Rattle.std.specs.Prelude.{Option, None, Some}
+use Rattle.std.specs.Option.{option_map}
+use Rattle.lists.proofs.Options.{None_ne_Some, Some_ne_None, Some_injective}
 use mathlib.Core.Logic.{◌⊎◌, inl, inr}
 use Prim.Native.Nat.{ℕ, suc, ◌≤◌, ◌<◌}
 use native.Mathlib.Omega.{arith}
@@ -53,49 +55,49 @@ module _ {A : Type 0} where
   →filter p (x ∷ xs) {a} (Memᴰ.head e) t = rw (cond_true (p x) _ _ (subst (λ (y : A). Yes (p y)) e t)) (Memᴰ.head e)
   →filter p (x ∷ xs) {a} (Memᴰ.tail m) t = cond_both (λ l. Mem a l) (x ∷ filter p xs) (filter p xs) (p x) (λ u. Memᴰ.tail (→filter p xs m t)) (λ u. →filter p xs m t)
 
-  pub find→ : (p : A → Bool) (l : List A) {a : A} → find p l ≡ some a → Mem a l × Yes (p a)
-  find→ p [] {a} e = absurd (none-ne-some a e)
+  pub find→ : (p : A → Bool) (l : List A) {a : A} → find p l ≡ Some a → Mem a l × Yes (p a)
+  find→ p [] {a} e = absurd (None_ne_Some a e)
   find→ p (x ∷ xs) {a} e = go (p x) refl e (λ n. find→ p xs n)
     where
-      go : (b : Bool) → p x ≡ b → cond b (some x) (find p xs) ≡ some a → (find p xs ≡ some a → Mem a xs × Yes (p a)) → Mem a (x ∷ xs) × Yes (p a)
-      go true q f r = let z = some-injective x a f in (Memᴰ.head (sym z), (ap p (sym z) ∙ q))
+      go : (b : Bool) → p x ≡ b → cond b (Some x) (find p xs) ≡ Some a → (find p xs ≡ Some a → Mem a xs × Yes (p a)) → Mem a (x ∷ xs) × Yes (p a)
+      go true q f r = let z = Some_injective x a f in (Memᴰ.head (sym z), (ap p (sym z) ∙ q))
       go false q f r = let w = r f in (Memᴰ.tail w.0, w.1)
 
-  pub find_none→ : (p : A → Bool) (l : List A) {a : A} → find p l ≡ none → Mem a l → Yes (p a) → ⊥
+  pub find_none→ : (p : A → Bool) (l : List A) {a : A} → find p l ≡ None → Mem a l → Yes (p a) → ⊥
   find_none→ p [] {a = a} e x3 t = elim x3 [ ]
-  find_none→ p (x ∷ xs) {a} e (Memᴰ.head q) t = some-ne-none x (sym (cond_true (p x) (some x) (find p xs) (subst (λ (y : A). Yes (p y)) q t)) ∙ e)
+  find_none→ p (x ∷ xs) {a} e (Memᴰ.head q) t = Some_ne_None x (sym (cond_true (p x) (Some x) (find p xs) (subst (λ (y : A). Yes (p y)) q t)) ∙ e)
   find_none→ p (x ∷ xs) {a} e (Memᴰ.tail m) t =
-      by (p x) ⊥ (λ u. some-ne-none x (sym (cond_true (p x) (some x) (find p xs) u) ∙ e)) (λ u. find_none→ p xs (sym (cond_false (p x) (some x) (find p xs) u) ∙ e) m t)
+      by (p x) ⊥ (λ u. Some_ne_None x (sym (cond_true (p x) (Some x) (find p xs) u) ∙ e)) (λ u. find_none→ p xs (sym (cond_false (p x) (Some x) (find p xs) u) ∙ e) m t)
 
   -- the outcome of a search, with its equation
-  pub find_cases : (p : A → Bool) (l : List A) → ((a : A) × (find p l ≡ some a)) ⊎ (find p l ≡ none)
+  pub find_cases : (p : A → Bool) (l : List A) → ((a : A) × (find p l ≡ Some a)) ⊎ (find p l ≡ None)
   find_cases p l = go (find p l) refl
     where
-      go : (o : Option A) → find p l ≡ o → ((a : A) × (find p l ≡ some a)) ⊎ (find p l ≡ none)
-      go none e = inr e
-      go (some a) e = inl (a, e)
+      go : (o : Option A) → find p l ≡ o → ((a : A) × (find p l ≡ Some a)) ⊎ (find p l ≡ None)
+      go None e = inr e
+      go (Some a) e = inl (a, e)
 
-  pub find_hit : (p : A → Bool) (l : List A) {a : A} → Mem a l → Yes (p a) → (b : A) × (find p l ≡ some b)
+  pub find_hit : (p : A → Bool) (l : List A) {a : A} → Mem a l → Yes (p a) → (b : A) × (find p l ≡ Some b)
   find_hit p l m t = elim (find_cases p l) [ inl w ↦ w | inr e ↦ absurd (find_none→ p l e m t) ]
 
-  pub find_miss : (p : A → Bool) (l : List A) → ((a : A) → Mem a l → Yes (p a) → ⊥) → find p l ≡ none
+  pub find_miss : (p : A → Bool) (l : List A) → ((a : A) → Mem a l → Yes (p a) → ⊥) → find p l ≡ None
   find_miss p l f = elim (find_cases p l) [ inl w ↦ let r = find→ p l w.1 in absurd (f w.0 r.0 r.1) | inr e ↦ e ]
 
   pub find_filter : (p q : A → Bool) (l : List A) → ((a : A) → Yes (p a) → Yes (q a)) → find p (filter q l) ≡ find p l
   find_filter p q [] f = refl
   find_filter p q (x ∷ xs) f = go (q x) refl (p x) refl (find_filter p q xs f)
     where
-      go : (b : Bool) → q x ≡ b → (c : Bool) → p x ≡ c → find p (filter q xs) ≡ find p xs → find p (cond b (x ∷ filter q xs) (filter q xs)) ≡ cond c (some x) (find p xs)
+      go : (b : Bool) → q x ≡ b → (c : Bool) → p x ≡ c → find p (filter q xs) ≡ find p xs → find p (cond b (x ∷ filter q xs) (filter q xs)) ≡ cond c (Some x) (find p xs)
       go true d true e r = simp e
       go true d false e r = simp (e, r)
       go false d true e r = absurd (against d (f x e))
       go false d false e r = r
 
-  pub find_map : (p : A → Bool) (g : A → A) (l : List A) → ((a : A) → p (g a) ≡ p a) → find p (map g l) ≡ Option.map g (find p l)
+  pub find_map : (p : A → Bool) (g : A → A) (l : List A) → ((a : A) → p (g a) ≡ p a) → find p (map g l) ≡ option_map g (find p l)
   find_map p g [] f = refl
   find_map p g (x ∷ xs) f = go (p x) refl (find_map p g xs f)
     where
-      go : (b : Bool) → p x ≡ b → find p (map g xs) ≡ Option.map g (find p xs) → find p (map g (x ∷ xs)) ≡ Option.map g (cond b (some x) (find p xs))
+      go : (b : Bool) → p x ≡ b → find p (map g xs) ≡ option_map g (find p xs) → find p (map g (x ∷ xs)) ≡ option_map g (cond b (Some x) (find p xs))
       go true e r = simp (f x, e)
       go false e r = simp (f x, e, r)
 
@@ -191,18 +193,18 @@ module _ {A : Type 0} (k : A → ℕ) where
   insert_old x (y ∷ ys) {a} (Memᴰ.tail m) = cond_both (λ l. Mem a l) (x ∷ (y ∷ ys)) (y ∷ insert_by k x ys) (ltb (k x) (k y)) (λ u. Memᴰ.tail (Memᴰ.tail m)) (λ u. Memᴰ.tail (insert_old x ys m))
 
   -- in an ascending list the entry of a key is the one that is found
-  pub find_key : (l : List A) → Yes (ascending k l) → (j : ℕ) {a : A} → Mem a l → k a ≡ j → find (λ x. eqb (k x) j) l ≡ some a
+  pub find_key : (l : List A) → Yes (ascending k l) → (j : ℕ) {a : A} → Mem a l → k a ≡ j → find (λ x. eqb (k x) j) l ≡ Some a
   find_key l t j {a} m e =
       let t' : Yes (eqb (k a) j) = rw e (eq-eqb j j refl) in
       let w = find_hit (λ x. eqb (k x) j) l m t' in
       let f = find→ (λ x. eqb (k x) j) l w.1 in
-      w.1 ∙ ap {B = Option A} some (from_unique 0 t f.0 m (eqb-true (k w.0) j f.1 ∙ sym e))
+      w.1 ∙ ap {B = Option A} Some (from_unique 0 t f.0 m (eqb-true (k w.0) j f.1 ∙ sym e))
 
   pub length_insert : (x : A) (l : List A) → length (insert_by k x l) ≡ suc (length l)
   length_insert x [] = refl
   length_insert x (y ∷ ys) = cond_both (λ l. length l ≡ suc (suc (length ys))) (x ∷ (y ∷ ys)) (y ∷ insert_by k x ys) (ltb (k x) (k y)) (λ u. refl) (λ u. ap suc (length_insert x ys))
 
   pub find_insert : (p : A → Bool) (x : A) (l : List A) → No (p x) → find p (insert_by k x l) ≡ find p l
-  find_insert p x [] n = rw (cond_false (p x) (some x) none n)
+  find_insert p x [] n = rw (cond_false (p x) (Some x) None n)
   find_insert p x (y ∷ ys) n = cond_both (λ l. find p l ≡ find p (y ∷ ys)) (x ∷ (y ∷ ys)) (y ∷ insert_by k x ys) (ltb (k x) (k y))
-      (λ u. cond_false (p x) (some x) (find p (y ∷ ys)) n) (λ u. rw (find_insert p x ys n))
+      (λ u. cond_false (p x) (Some x) (find p (y ∷ ys)) n) (λ u. rw (find_insert p x ys n))

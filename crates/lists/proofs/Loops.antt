@@ -2,7 +2,7 @@
 -- Assumes nothing.
 use mathlib.Core.Bool.{Bool, true, false, cond}
 use mathlib.Core.List.{List, [], ◌∷◌, ◌++◌, map, append_assoc, append-nil}
-use mathlib.Core.Option.{none, some}
+use Rattle.std.specs.Prelude.{None, Some}
 use mathlib.Core.Path.{◌≡◌, refl, sym, ap, ◌∙◌}
 use Prim.Native.Nat.{ℕ, suc, ◌+◌, ◌-◌, ◌≤◌, ◌<◌}
 use native.Mathlib.Numerals.{add-one}
@@ -69,13 +69,13 @@ module _ {A : Type 0} where
     pub any_end : (l : List A) (n i : ℕ) → i ≤ n → n ≤ i → any p (slice i n l) ≡ false
     any_end l n i h k = let e : i ≡ n = omega arith in rw (e, slice_empty n l)
 
-    pub find_yes : (l : List A) (n i : ℕ) (d : A) → i < n → n ≤ length l → p (get_or l i d) ≡ true → find p (slice i n l) ≡ some (get_or l i d)
+    pub find_yes : (l : List A) (n i : ℕ) (d : A) → i < n → n ≤ length l → p (get_or l i d) ≡ true → find p (slice i n l) ≡ Some (get_or l i d)
     find_yes l n i d h k e = rw (rest_step l n i d h k, e)
 
     pub find_no : (l : List A) (n i : ℕ) (d : A) → i < n → n ≤ length l → p (get_or l i d) ≡ false → find p (slice i n l) ≡ find p (slice (i + 1) n l)
     find_no l n i d h k e = rw (rest_step l n i d h k, e)
 
-    pub find_end : (l : List A) (n i : ℕ) → i ≤ n → n ≤ i → find p (slice i n l) ≡ none
+    pub find_end : (l : List A) (n i : ℕ) → i ≤ n → n ≤ i → find p (slice i n l) ≡ None
     find_end l n i h k = let e : i ≡ n = omega arith in rw (e, slice_empty n l)
 
   map-append : {B : Type 0} (f : A → B) (s t : List A) → map f (s ++ t) ≡ map f s ++ map f t

@@ -1,6 +1,6 @@
 -- A test at each, or at some, number below a bound, and the lowest number that passes.
 use Rattle.std.specs.Prelude.{ℕ, zero, suc, Bool, true, false, cond}
-use Rattle.std.proofs.Math.Option.{Option, none, some}
+use Rattle.std.specs.Prelude.{Option, None, Some}
 use Rattle.lists.specs.Tests.{◌and◌, ◌or◌}
 
 -- each number below n passes
@@ -15,9 +15,9 @@ any_below (suc n) f = any_below n f or f n
 
 -- the lowest number below n that passes: one found earlier, else n's own
 abbrev pub or_else : Option ℕ → Option ℕ → Option ℕ
-or_else (some k) other = some k
-or_else none other = other
+or_else (Some k) other = Some k
+or_else None other = other
 
 unfoldable pub lowest_below : ℕ → (ℕ → Bool) → Option ℕ
-lowest_below zero f = none
-lowest_below (suc n) f = or_else (lowest_below n f) (cond (f n) (some n) none)
+lowest_below zero f = None
+lowest_below (suc n) f = or_else (lowest_below n f) (cond (f n) (Some n) None)

@@ -1,7 +1,7 @@
 -- Lists: a test of every or of some element, what a test keeps and finds, the ascending order of a key.
 use Rattle.std.specs.Prelude.{Bool, true, false, cond, ℕ, suc, ltb, leb}
 use mathlib.Core.List.{List, [], ◌∷◌, Memᴰ}
-use Rattle.std.proofs.Math.Option.{Option, none, some}
+pub use Rattle.std.specs.List.{filter, find}
 use Rattle.lists.specs.Tests.{◌and◌, ◌or◌}
 
 module _ {A : Type 0} where
@@ -12,14 +12,6 @@ module _ {A : Type 0} where
   abbrev pub any : (A → Bool) → List A → Bool
   any p [] = false
   any p (x ∷ xs) = p x or any p xs
-
-  abbrev pub filter : (A → Bool) → List A → List A
-  filter p [] = []
-  filter p (x ∷ xs) = cond (p x) (x ∷ filter p xs) (filter p xs)
-
-  abbrev pub find : (A → Bool) → List A → Option A
-  find p [] = none
-  find p (x ∷ xs) = cond (p x) (some x) (find p xs)
 
   abbrev pub Mem : A → List A → Type 0
   Mem a l = Memᴰ a l

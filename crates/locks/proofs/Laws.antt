@@ -1,10 +1,9 @@
--- The cases of 001's functions: response classes, the owner through a read, the kinds of locks in one pass, and a deletion
--- that tests the state once.
+-- The cases of 001's functions: response classes, and a deletion that tests the state once.
 -- Assumes nothing.
-use mathlib.Core.Bool.{Bool, true, false, cond, not, ◌&&◌, ◌||◌}
+use mathlib.Core.Bool.{Bool, true, false, cond, not, true≢false}
 use mathlib.Core.List.{List, [], ◌∷◌}
 use mathlib.Core.Logic.{inl, inr}
-use mathlib.Core.Option.{Option, none, some}
+use Rattle.std.specs.Prelude.{Option, None, Some}
 use mathlib.Core.Path.{◌≡◌, refl, sym, ap, subst, ◌∙◌}
 use Prim.Native.Nat.{ℕ, zero, suc, ◌+◌, ◌≤◌, ◌<◌}
 use native.Mathlib.Numerals.{add-one}
@@ -18,7 +17,9 @@ use denote.Enum.Declared.{tag_of}
 use borrow.Author.Tests.{ne_eqb}
 use Rattle.lists.specs.Tests.{◌and◌, ◌or◌, non}
 use Rattle.lists.specs.Lists.{any, find}
-use Rattle.lists.proofs.Tests.{or_r, or_code, codes, cond_true, cond_false}
+use Rattle.std.specs.List.{list_any}
+use Rattle.lists.proofs.Std.{any_std, any_as}
+use Rattle.lists.proofs.Tests.{or_no, codes, cond_true, cond_false}
 use Rattle.ids.specs.declared.LockId.{LockId}
 use Rattle.state.specs.declared.ScopeKey.{ScopeKey}
 use Rattle.state.specs.declared.ScopeKey.TheVariants.{Vehicle, Ecu, FunctionalGroup}
@@ -27,30 +28,27 @@ use Rattle.state.specs.declared.DefunctLock.{DefunctLock}
 use Rattle.state.specs.declared.LockState.{LockState}
 use Rattle.state.specs.Locks.{is_vehicle, is_group, same_scope, has_id_d}
 use Rattle.state.specs.Model.{model_of}
-use Rattle.rules.specs.declared.Verdict.{Verdict}
-use Rattle.rules.specs.declared.Verdict.TheVariants.{Sound, Broken}
+use Rattle.std.specs.Prelude.{Result, Ok, Err, ⊤}
+use Rattle.rules.specs.declared.Unsound.{Unsound}
+use Rattle.rules.specs.declared.Unsound.TheVariants.{Rule}
 use Rattle.rules.specs.Rules.{broken_rule}
-use Rattle.lookups.specs.declared.FoundActive.TheVariants as active
-use Rattle.lookups.specs.declared.Truth.TheVariants as truth
-use Rattle.lookups.specs.Reads.{by_verdict, on_sound, on_scope, told_a, active_for_scope_on}
-use Rattle.lookups.proofs.Verdicts.{on_sound_lem}
-use Rattle.operations.specs.declared.answers.Acknowledgement.TheVariants as acknowledgement
-use Rattle.operations.specs.declared.answers.Acknowledged.{Acknowledged}
+use Rattle.std.specs.Option.{option_map}
+use Rattle.std.specs.Prelude.{min, ◌-◌, ◌^◌}
+use Rattle.lookups.specs.Reads.{by_verdict, on_sound, on_scope, active_for_scope_on}
+use Rattle.lookups.proofs.Verdicts.{on_sound_lem, read_ok}
+use Rattle.operations.specs.declared.answers.StateRefusal.TheVariants as state_refusal
+use Rattle.operations.specs.Answers.{Acknowledged, rule_of}
 use Rattle.operations.specs.Acknowledge.{acknowledged, acknowledge_on}
-use Rattle.operations.proofs.Flags.{any_more}
 use Rattle.locks.specs.declared.Response.TheVariants as response
-use Rattle.locks.specs.declared.Owner.TheVariants as owner
-use Rattle.locks.specs.declared.Update.TheVariants as update
-use Rattle.locks.specs.declared.Kinds.{Kinds}
-use Rattle.locks.specs.declared.Dropping.{Dropping}
-use Rattle.locks.specs.declared.Dropping.TheVariants as dropping
-use Rattle.locks.specs.Locks.{response_of, told_owner, vehicle_owner_on, non_vehicle, has_non_vehicle_on, group_lock, ecu_lock, raised, prepare_update_on, dropped, as_dropped, drop_found_on, delete_defunct_on}
-use Rattle.locks.specs.Code.{owner_of, kinds_of, judge_entry, judge_drop}
-use Rattle.locks.specs.contracts.Dropping.{the_type}
+use Rattle.locks.specs.declared.UpdateRefusal.TheVariants as update
+use Rattle.locks.specs.declared.DroppingRefusal.{DroppingRefusal}
+use Rattle.locks.specs.declared.DroppingRefusal.TheVariants as dropping
+use Rattle.locks.specs.Locks.{response_of, vehicle_owner_on, non_vehicle, has_non_vehicle_on, group_lock, ecu_lock, raised, prepare_update_on, dropped, as_dropped, drop_found_on, delete_defunct_on, Dropped}
+use Rattle.locks.specs.Code.{judge_entry, judge_drop}
 
 -- ---- response classes of the numbers that the code tells by their range
 -- 3, 4 and 5
-pub class_3_5 : (n : ℕ) → 1 ≤ n → n < 6 → (OneOf (1 ∷ 8 ∷ 11 ∷ []) n → ⊥) → (OneOf (2 ∷ 9 ∷ []) n → ⊥) → response.InternalServerError ≡ response_of n
+pub class_3_5 : (n : ℕ) → 1 ≤ n → n < 6 → (OneOf (1 ∷ 8 ∷ 11 ∷ []) n → ⊥) → (OneOf (2 ∷ 9 ∷ []) n → ⊥) → Some response.InternalServerError ≡ response_of n
 unfolding response_of ◌or◌
 class_3_5 n h g a b =
     let one : n ≡ 1 → ⊥ = λ q. a (inl q) in
@@ -61,16 +59,16 @@ class_3_5 n h g a b =
     ]
 
 -- 6 and 7
-pub class_6_7 : (n : ℕ) → 6 ≤ n → n < 8 → response.Conflict ≡ response_of n
+pub class_6_7 : (n : ℕ) → 6 ≤ n → n < 8 → Some response.Conflict ≡ response_of n
 unfolding response_of ◌or◌
 class_6_7 n h g = elim (ℕ_discrete n 6) [ yes e ↦ rw e | no x ↦ let e : n ≡ 7 = omega arith in rw e ]
 
-pub class_0 : (n : ℕ) → n < 1 → response.Nothing ≡ response_of n
+pub class_0 : (n : ℕ) → n < 1 → None ≡ response_of n
 unfolding response_of ◌or◌
 class_0 n h = let e : n ≡ 0 = omega arith in rw e
 
 -- past 7, all but 8, 9, 10, 11 and 26
-pub class_none : (n : ℕ) → 8 ≤ n → (OneOf (10 ∷ []) n → ⊥) → (OneOf (2 ∷ 9 ∷ []) n → ⊥) → (OneOf (1 ∷ 8 ∷ 11 ∷ []) n → ⊥) → (OneOf (26 ∷ []) n → ⊥) → response.Nothing ≡ response_of n
+pub class_none : (n : ℕ) → 8 ≤ n → (OneOf (10 ∷ []) n → ⊥) → (OneOf (2 ∷ 9 ∷ []) n → ⊥) → (OneOf (1 ∷ 8 ∷ 11 ∷ []) n → ⊥) → (OneOf (26 ∷ []) n → ⊥) → None ≡ response_of n
 unfolding response_of ◌or◌
 class_none n h a b c d =
     rw (
@@ -88,131 +86,144 @@ class_none n h a b c d =
       ne_eqb n 26 d,
     )
 
--- ---- the owner, through the read of the vehicle's scope
-pub owner_is : (s : LockState) → owner_of (active_for_scope_on s Vehicle) ≡ vehicle_owner_on s
-unfolding active_for_scope_on vehicle_owner_on on_sound
-owner_is s = go (broken_rule s) (find (on_scope Vehicle) (model_of s).active)
-  where
-    go : (v : Verdict) (o : Option ActiveLock) → owner_of (by_verdict v active.UnsoundState (told_a o)) ≡ by_verdict v owner.UnsoundState (told_owner o)
-    go Sound none = refl
-    go Sound (some a) = refl
-    go (Broken n) o = refl
+-- ---- a state that the test refuses, past a `?` that turns the refusal into another's
+module _ {A E : Type 0} (s : LockState) (f : ℕ → E) (a : Result A E) where
+  pub err_from : (r : Result A E) (e : Unsound) (g : E) → broken_rule s ≡ Err e → r ≡ Err g → g ≡ f (rule_of e) → r ≡ on_sound s (λ n. Err (f n)) a
+  unfolding on_sound
+  err_from r (Rule n) g q h k = h ∙ ap Err k ∙ sym (ap (λ (v : Result ⊤ Unsound). by_verdict v (λ n. Err (f n)) a) q)
 
--- ---- a lock that is not on the vehicle is on a group or on an ECU
-kind_of_lem : (a : ActiveLock) → non_vehicle a ≡ (group_lock a or ecu_lock a)
-unfolding non_vehicle group_lock ecu_lock is_vehicle is_group ◌and◌ ◌or◌ non
+  pub ok_past : (u : ⊤) (r : Result A E) → broken_rule s ≡ Ok u → r ≡ a → r ≡ on_sound s (λ n. Err (f n)) a
+  unfolding on_sound
+  ok_past u r q h = h ∙ sym (ap (λ (v : Result ⊤ Unsound). by_verdict v (λ n. Err (f n)) a) q)
+
+-- ---- the owner, through the read of the vehicle's scope
+module _ (s : LockState) where
+  pub owner_err : (e : Unsound) → active_for_scope_on s Vehicle ≡ Err e → Err e ≡ vehicle_owner_on s
+  unfolding active_for_scope_on vehicle_owner_on on_sound
+  owner_err e q = go (broken_rule s) q
+    where
+      go : (v : Result ⊤ Unsound) → ◌≡◌ {A = Result (Option ActiveLock) Unsound} (by_verdict v (λ n. Err (Rule n)) (Ok (find (on_scope Vehicle) (model_of s).active))) (Err e) → ◌≡◌ {A = Result (Option ℕ) Unsound} (Err e) (by_verdict v (λ n. Err (Rule n)) (Ok (option_map (λ (a : ActiveLock). a.lock.subject) (find (on_scope Vehicle) (model_of s).active))))
+      go (Ok tt) q = absurd (let z : ◌≡◌ {A = ℕ} 0 1 = cc in omega arith)
+      go (Err (Rule n)) q = cc
+
+  pub owner_ok : (o : Option ActiveLock) (x : Option ℕ) → active_for_scope_on s Vehicle ≡ Ok o → x ≡ option_map (λ (a : ActiveLock). a.lock.subject) o → Ok x ≡ vehicle_owner_on s
+  unfolding active_for_scope_on vehicle_owner_on on_sound
+  owner_ok o x q h = go (broken_rule s) q
+    where
+      go : (v : Result ⊤ Unsound) → ◌≡◌ {A = Result (Option ActiveLock) Unsound} (by_verdict v (λ n. Err (Rule n)) (Ok (find (on_scope Vehicle) (model_of s).active))) (Ok o) → ◌≡◌ {A = Result (Option ℕ) Unsound} (Ok x) (by_verdict v (λ n. Err (Rule n)) (Ok (option_map (λ (a : ActiveLock). a.lock.subject) (find (on_scope Vehicle) (model_of s).active))))
+      go (Ok tt) q = let e : find (on_scope Vehicle) (model_of s).active ≡ o = cc in ap Ok (h ∙ ap (option_map (λ (a : ActiveLock). a.lock.subject)) (sym e))
+      go (Err (Rule n)) q = absurd (let z : ◌≡◌ {A = ℕ} 0 1 = cc in omega arith)
+
+-- ---- without a group's lock, a lock that is not the vehicle's is an ECU's
+kind_of_lem : (a : ActiveLock) → group_lock a ≡ false → non_vehicle a ≡ ecu_lock a
+unfolding non_vehicle group_lock ecu_lock is_vehicle is_group ◌and◌ non
 kind_of_lem a = go a.lock.scope
   where
-    go : (k : ScopeKey) → non (is_vehicle k) ≡ (is_group k or (non (is_vehicle k) and non (is_group k)))
-    go Vehicle = refl
-    go (Ecu n) = refl
-    go (FunctionalGroup n) = refl
+    go : (k : ScopeKey) → is_group k ≡ false → non (is_vehicle k) ≡ (non (is_vehicle k) and non (is_group k))
+    go Vehicle e = refl
+    go (Ecu n) e = refl
+    go (FunctionalGroup n) e = absurd (true≢false e)
 
-mix : (a b c d : Bool) → ((a or b) or (c or d)) ≡ ((a or c) or (b or d))
-unfolding ◌or◌
-mix true b c d = refl
-mix false b true d = or_r b true refl
-mix false true false d = refl
-mix false false false d = refl
+pub others_ecus : (l : List ActiveLock) → any group_lock l ≡ false → any non_vehicle l ≡ any ecu_lock l
+others_ecus [] e = refl
+others_ecus (x ∷ xs) e = ap (λ (b : Bool). b or any non_vehicle xs) (kind_of_lem x ((or_no _ _ e).0)) ∙ ap (λ (b : Bool). ecu_lock x or b) (others_ecus xs ((or_no _ _ e).1))
 
-pub kinds_all : (l : List ActiveLock) → any non_vehicle l ≡ (any group_lock l or any ecu_lock l)
-unfolding ◌or◌
-kinds_all [] = refl
-kinds_all (x ∷ xs) = ap (λ (b : Bool). b or any non_vehicle xs) (kind_of_lem x) ∙ ap (λ (b : Bool). (group_lock x or ecu_lock x) or b) (kinds_all xs) ∙ mix (group_lock x) (ecu_lock x) (any group_lock xs) (any ecu_lock xs)
+-- in the words of the code
+groups_as : (l : List ActiveLock) → list_any (λ (a : ActiveLock). is_group a.lock.scope) l ≡ any group_lock l
+unfolding group_lock
+groups_as l = any_std group_lock l
 
--- one lock more in the pass
-module _ (l : List ActiveLock) (i : ℕ) (d : ActiveLock) (f : Bool) (h : i < length l) where
-  pub groups_more : (g : Bool) → f ≡ any group_lock (take i l) → g ≡ is_group (get_or l i d).lock.scope → (f || g) ≡ any group_lock (take (i + 1) l)
-  unfolding group_lock
-  groups_more g e q = any_more group_lock l i d f g h e q
+others_as : (l : List ActiveLock) → list_any (λ (a : ActiveLock). not (is_vehicle a.lock.scope)) l ≡ any non_vehicle l
+unfolding non_vehicle
+others_as l = any_as non_vehicle (λ (a : ActiveLock). not (is_vehicle a.lock.scope)) (λ a. simp codes) l
 
-  pub ecus_more : (v g : Bool) → f ≡ any ecu_lock (take i l) → v ≡ is_vehicle (get_or l i d).lock.scope → g ≡ is_group (get_or l i d).lock.scope → (f || (not v && not g)) ≡ any ecu_lock (take (i + 1) l)
-  unfolding ecu_lock
-  ecus_more v g e p q = any_more ecu_lock l i d f (not v && not g) h e (rw (p, q) (simp codes))
+pub others_read : (s : LockState) (u : ⊤) (b : Bool) → broken_rule s ≡ Ok u → b ≡ list_any (λ (a : ActiveLock). not (is_vehicle a.lock.scope)) (model_of s).active → Ok b ≡ has_non_vehicle_on s
+unfolding has_non_vehicle_on
+others_read s u b w e = read_ok s _ b u w (e ∙ others_as (model_of s).active)
 
--- ---- what a sound state answers
-module _ (s : LockState) (w : broken_rule s ≡ Sound) (x : Kinds) (e : x ≡ kinds_of (model_of s).active) where
-  pub non_vehicle_is : truth.Is (x.groups || x.ecus) ≡ has_non_vehicle_on s
-  unfolding has_non_vehicle_on
-  non_vehicle_is = ap (λ (y : Kinds). truth.Is (y.groups || y.ecus)) e ∙ ap truth.Is (or_code (any group_lock (model_of s).active) (any ecu_lock (model_of s).active) ∙ sym (kinds_all (model_of s).active)) ∙ on_sound_lem s _ _ (broken_rule s) refl w
+-- ---- a runtime update of a sound state
+module _ (s : LockState) (u : ⊤) (w : broken_rule s ≡ Ok u) (k : ℕ) where
+  pub group_held : list_any (λ (a : ActiveLock). is_group a.lock.scope) (model_of s).active ≡ true → Err update.FunctionalGroupLocksHeld ≡ prepare_update_on s k
+  unfolding prepare_update_on
+  group_held t = ok_past s update.UnsoundState _ u _ w (sym (cond_true (any group_lock (model_of s).active) _ _ (sym (groups_as (model_of s).active) ∙ t)))
 
-  module _ (g : ℕ) where
-    updated : cond x.groups update.FunctionalGroupLocksHeld (cond x.ecus update.EcuLocksHeld (update.Generation (raised g))) ≡ prepare_update_on s g
+  module _ (m : list_any (λ (a : ActiveLock). is_group a.lock.scope) (model_of s).active ≡ false) where
+    n : any group_lock (model_of s).active ≡ false
+    n = sym (groups_as (model_of s).active) ∙ m
+
+    pub ecu_held : list_any (λ (a : ActiveLock). not (is_vehicle a.lock.scope)) (model_of s).active ≡ true → Err update.EcuLocksHeld ≡ prepare_update_on s k
     unfolding prepare_update_on
-    updated = ap (λ (y : Kinds). cond y.groups update.FunctionalGroupLocksHeld (cond y.ecus update.EcuLocksHeld (update.Generation (raised g)))) e ∙ on_sound_lem s _ _ (broken_rule s) refl w
+    ecu_held t = ok_past s update.UnsoundState _ u _ w (sym (cond_false (any group_lock (model_of s).active) _ _ n ∙ cond_true (any ecu_lock (model_of s).active) _ _ (sym (others_ecus (model_of s).active n) ∙ sym (others_as (model_of s).active) ∙ t)))
 
-    pub group_held : x.groups ≡ true → update.FunctionalGroupLocksHeld ≡ prepare_update_on s g
-    group_held t = sym (cond_true x.groups _ _ t) ∙ updated
+    pub none_held : list_any (λ (a : ActiveLock). not (is_vehicle a.lock.scope)) (model_of s).active ≡ false → (x : ℕ) → x ≡ raised k → Ok x ≡ prepare_update_on s k
+    unfolding prepare_update_on
+    none_held t x q = ok_past s update.UnsoundState _ u _ w (ap Ok q ∙ sym (cond_false (any group_lock (model_of s).active) _ _ n ∙ cond_false (any ecu_lock (model_of s).active) _ _ (sym (others_ecus (model_of s).active n) ∙ sym (others_as (model_of s).active) ∙ t)))
 
-    module _ (n : x.groups ≡ false) where
-      pub ecu_held : x.ecus ≡ true → update.EcuLocksHeld ≡ prepare_update_on s g
-      ecu_held t = sym (cond_true x.ecus _ _ t) ∙ sym (cond_false x.groups _ _ n) ∙ updated
-
-      pub none_held : x.ecus ≡ false → (k : ℕ) → k ≡ raised g → update.Generation k ≡ prepare_update_on s g
-      none_held t k q = ap update.Generation q ∙ sym (cond_false x.ecus _ _ t) ∙ sym (cond_false x.groups _ _ n) ∙ updated
-
--- ---- a search of a list whose count may be past its end
-module _ {A : Type 0} (p : A → Bool) (l : List A) (n i : ℕ) where
-  step_any : (d : A) → i < n → i < length l → slice i n l ≡ get_or l i d ∷ slice (i + 1) n l
-  step_any d h k = rw (add-one i, drop-cons (take n l) i d (omega (arith, length-take n l)), get_or-take n l i d h)
-
-  pub entry_yes : (d : A) → i < n → i < length l → p (get_or l i d) ≡ true → find p (slice i n l) ≡ some (get_or l i d)
-  entry_yes d h k e = rw (step_any d h k, e)
-
-  pub entry_no : (d : A) → i < n → i < length l → p (get_or l i d) ≡ false → find p (slice i n l) ≡ find p (slice (i + 1) n l)
-  entry_no d h k e = rw (step_any d h k, e)
-
-  past : (m : List A) (j : ℕ) → length m ≤ j → drop j m ≡ []
-  past [] j h = drop-nil j
-  past (x ∷ xs) zero h = absurd (omega arith)
-  past (x ∷ xs) (suc j) h = past xs j (omega arith)
-
-  pub entry_end : length (take n l) ≤ i → find p (slice i n l) ≡ none
-  entry_end h = rw (past (take n l) i h)
+pub raised_is : (g : ℕ) → g ≤ 18446744073709551615 → min (g + 1) (2 ^ 64 - 1) ≡ raised g
+unfolding raised
+raised_is g f = elim (ℕ_discrete g 18446744073709551615) [ yes e ↦ rw e | no x ↦ rw (ne_eqb g 18446744073709551615 x) (omega (arith, x, f)) ]
 
 -- ---- a deletion of a defunct entry, by the judgement on it
 module _ (s : LockState) (i : LockId) (k : ScopeKey) (subject : ℕ) where
-  found_done : (o : Option DefunctLock) → judge_drop k subject o ≡ dropping.Done → drop_found_on s i k subject o ≡ as_dropped (acknowledge_on s i)
+  found_done : (o : Option DefunctLock) → judge_drop k subject o ≡ Ok true → drop_found_on s i k subject o ≡ as_dropped (acknowledge_on s i)
   unfolding drop_found_on judge_entry
-  found_done none e = absurd (let z : ◌≡◌ {A = ℕ} 0 1 = cc in omega arith)
-  found_done (some d) e = go (same_scope d.lock.scope k) (eqb d.lock.subject subject) e
+  found_done None e = absurd (let z : ◌≡◌ {A = ℕ} 0 1 = cc in omega arith)
+  found_done (Some d) e = go (same_scope d.lock.scope k) (eqb d.lock.subject subject) e
     where
-      go : (b c : Bool) → cond b (cond c dropping.Done dropping.Forbidden) dropping.Absent ≡ dropping.Done → cond b (cond c (as_dropped (acknowledge_on s i)) (dropped dropping.Forbidden s)) (dropped dropping.Absent s) ≡ as_dropped (acknowledge_on s i)
+      go : (b c : Bool) → cond b (cond c (Ok true) (Err dropping.Forbidden)) (Ok false) ≡ Ok true → cond b (cond c (as_dropped (acknowledge_on s i)) (dropped (Err dropping.Forbidden) s)) (dropped (Ok false) s) ≡ as_dropped (acknowledge_on s i)
       go true true e = refl
       go true false e = absurd (let z : ◌≡◌ {A = ℕ} 0 1 = cc in omega arith)
       go false c e = absurd (let z : ◌≡◌ {A = ℕ} 0 1 = cc in omega arith)
 
-  -- the code tells the other answers by their tags
-  abbrev Refused : Dropping → Type 0
-  Refused a = OneOf (1 ∷ 2 ∷ 3 ∷ 4 ∷ []) (tag_of the_type a)
-
-  found_kept : (o : Option DefunctLock) → Refused (judge_drop k subject o) → drop_found_on s i k subject o ≡ dropped (judge_drop k subject o) s
+  found_kept : (o : Option DefunctLock) → (judge_drop k subject o ≡ Ok true → ⊥) → drop_found_on s i k subject o ≡ dropped (judge_drop k subject o) s
   unfolding drop_found_on judge_entry
-  found_kept none z = refl
-  found_kept (some d) z = go (same_scope d.lock.scope k) (eqb d.lock.subject subject) z
+  found_kept None z = refl
+  found_kept (Some d) z = go (same_scope d.lock.scope k) (eqb d.lock.subject subject) z
     where
-      go : (b c : Bool) → Refused (cond b (cond c dropping.Done dropping.Forbidden) dropping.Absent) → cond b (cond c (as_dropped (acknowledge_on s i)) (dropped dropping.Forbidden s)) (dropped dropping.Absent s) ≡ dropped (cond b (cond c dropping.Done dropping.Forbidden) dropping.Absent) s
-      go true true z = absurd (miss (1 ∷ 2 ∷ 3 ∷ 4 ∷ []) 0 tt z)
+      go : (b c : Bool) → (cond b (cond c (Ok true) (Err dropping.Forbidden)) (Ok false) ≡ Ok true → ⊥) → cond b (cond c (as_dropped (acknowledge_on s i)) (dropped (Err dropping.Forbidden) s)) (dropped (Ok false) s) ≡ dropped (cond b (cond c (Ok true) (Err dropping.Forbidden)) (Ok false)) s
+      go true true z = absurd (z refl)
       go true false z = refl
       go false c z = refl
 
   -- the acknowledgement's own test is the one that is asked
-  once : on_sound s (λ n. dropped (dropping.UnsoundState n) s) (as_dropped (acknowledge_on s i)) ≡ as_dropped (acknowledge_on s i)
+  once : on_sound s (λ n. dropped (Err (dropping.UnsoundState n)) s) (as_dropped (acknowledge_on s i)) ≡ as_dropped (acknowledge_on s i)
   unfolding acknowledge_on on_sound
   once = go (broken_rule s) _
     where
-      go : (v : Verdict) (x : Acknowledged) → by_verdict v (λ n. dropped (dropping.UnsoundState n) s) (as_dropped (by_verdict v (λ n. acknowledged (acknowledgement.UnsoundState n) s) x)) ≡ as_dropped (by_verdict v (λ n. acknowledged (acknowledgement.UnsoundState n) s) x)
-      go Sound x = refl
-      go (Broken n) x = refl
+      go : (v : Result ⊤ Unsound) (x : Acknowledged) → by_verdict v (λ n. dropped (Err (dropping.UnsoundState n)) s) (as_dropped (by_verdict v (λ n. acknowledged (Err (state_refusal.UnsoundState n)) s) x)) ≡ as_dropped (by_verdict v (λ n. acknowledged (Err (state_refusal.UnsoundState n)) s) x)
+      go (Ok tt) x = refl
+      go (Err (Rule n)) x = refl
 
-  module _ (a : Dropping) (e : a ≡ judge_drop k subject (find (has_id_d i) (model_of s).defunct)) where
-    pub drop_done : a ≡ dropping.Done → as_dropped (acknowledge_on s i) ≡ delete_defunct_on s i k subject
+  module _ (a : Result Bool DroppingRefusal) (e : a ≡ judge_drop k subject (find (has_id_d i) (model_of s).defunct)) where
+    pub drop_done : a ≡ Ok true → as_dropped (acknowledge_on s i) ≡ delete_defunct_on s i k subject
     unfolding delete_defunct_on
-    drop_done f = sym once ∙ ap (on_sound s (λ n. dropped (dropping.UnsoundState n) s)) (sym (found_done (find (has_id_d i) (model_of s).defunct) (sym e ∙ f)))
+    drop_done f = sym once ∙ ap (on_sound s (λ n. dropped (Err (dropping.UnsoundState n)) s)) (sym (found_done (find (has_id_d i) (model_of s).defunct) (sym e ∙ f)))
 
-    pub drop_kept : Refused a → broken_rule s ≡ Sound → dropped a s ≡ delete_defunct_on s i k subject
+    pub drop_kept : (a ≡ Ok true → ⊥) → on_sound s (λ rule. dropped (Err (dropping.UnsoundState rule)) s) (dropped a s) ≡ delete_defunct_on s i k subject
     unfolding delete_defunct_on
-    drop_kept z w =
-        ap (λ (b : Dropping). dropped b s) e
-        ∙ sym (found_kept (find (has_id_d i) (model_of s).defunct) (subst Refused e z))
-        ∙ on_sound_lem s _ _ (broken_rule s) refl w
+    drop_kept z =
+        ap (λ (b : Result Bool DroppingRefusal). on_sound s (λ rule. dropped (Err (dropping.UnsoundState rule)) s) (dropped b s)) e
+        ∙ sym (ap (on_sound s (λ rule. dropped (Err (dropping.UnsoundState rule)) s)) (found_kept (find (has_id_d i) (model_of s).defunct) (λ f. z (e ∙ f))))
+
+-- what is told where nothing goes: none of the two other answers lets the entry go
+module _ (s : LockState) (i : LockId) (k : ScopeKey) (subject : ℕ) (a : Result Bool DroppingRefusal) (e : a ≡ judge_drop k subject (find (has_id_d i) (model_of s).defunct)) (r : Dropped) where
+  pub kept_false : (b : Bool) → a ≡ Ok b → b ≡ false → r ≡ on_sound s (λ rule. dropped (Err (dropping.UnsoundState rule)) s) (dropped (Ok false) s) → r ≡ delete_defunct_on s i k subject
+  kept_false b q f h =
+      let p : a ≡ Ok false = q ∙ ap Ok f in
+      h ∙ ap (λ (x : Result Bool DroppingRefusal). on_sound s (λ rule. dropped (Err (dropping.UnsoundState rule)) s) (dropped x s)) (sym p)
+      ∙ drop_kept s i k subject a e (λ g. let z : ◌≡◌ {A = Result Bool DroppingRefusal} (Ok false) (Ok true) = sym p ∙ g in absurd (let z : ◌≡◌ {A = ℕ} 0 1 = cc in omega arith))
+
+  pub kept_err : (x : DroppingRefusal) → a ≡ Err x → r ≡ on_sound s (λ rule. dropped (Err (dropping.UnsoundState rule)) s) (dropped (Err x) s) → r ≡ delete_defunct_on s i k subject
+  kept_err x q h =
+      h ∙ ap (λ (x : Result Bool DroppingRefusal). on_sound s (λ rule. dropped (Err (dropping.UnsoundState rule)) s) (dropped x s)) (sym q)
+      ∙ drop_kept s i k subject a e (λ g. let z : ◌≡◌ {A = Result Bool DroppingRefusal} (Err x) (Ok true) = sym q ∙ g in absurd (let z : ◌≡◌ {A = ℕ} 0 1 = cc in omega arith))
+
+-- ---- a state that is tested last
+module _ (s : LockState) (a : Dropped) where
+  pub tested_ok : (u : ⊤) → broken_rule s ≡ Ok u → a ≡ on_sound s (λ rule. dropped (Err (dropping.UnsoundState rule)) s) a
+  unfolding on_sound
+  tested_ok u q = sym (ap (λ (v : Result ⊤ Unsound). by_verdict v (λ n. dropped (Err (dropping.UnsoundState n)) s) a) q)
+
+  pub tested_err : (e : Unsound) (g : DroppingRefusal) → broken_rule s ≡ Err e → g ≡ dropping.UnsoundState (rule_of e) → dropped (Err g) s ≡ on_sound s (λ rule. dropped (Err (dropping.UnsoundState rule)) s) a
+  unfolding on_sound
+  tested_err (Rule n) g q h = ap (λ (x : DroppingRefusal). dropped (Err x) s) h ∙ sym (ap (λ (v : Result ⊤ Unsound). by_verdict v (λ n. dropped (Err (dropping.UnsoundState n)) s) a) q)

@@ -2,226 +2,184 @@
 // SPDX-License-Identifier: Apache-2.0
 #![tactic(auto)]
 
-ghost use Rattle.std.specs.Prelude.{◌≡◌, ◌≤◌, take};
+ghost use Rattle.std.specs.Prelude.{◌≡◌, not, Err};
+ghost use Rattle.std.specs.List.{list_any};
 ghost use Rattle.lists.specs.Lists.{find};
-ghost use Rattle.state.specs.Locks.{has_id_d};
+ghost use Rattle.state.specs.Locks.{is_vehicle, is_group, has_id_d};
 ghost use Rattle.state.specs.Model.{model_of};
-ghost use Rattle.locks.specs.Locks.{response_of, vehicle_owner_on, has_non_vehicle_on, raised, prepare_update_on, as_dropping, as_dropped, delete_defunct_on};
-ghost use Rattle.locks.specs.Code.{owner_of, kinds_of, judge_entry, judge_drop};
+ghost use Rattle.lookups.specs.Reads.{on_sound};
+ghost use Rattle.operations.specs.Answers.{rule_of};
+ghost use Rattle.locks.specs.Locks.{response_of, vehicle_owner_on, has_non_vehicle_on, prepare_update_on, dropped, as_dropping, delete_defunct_on};
+ghost use Rattle.locks.specs.Code.{judge_entry, judge_drop};
+ghost use Rattle.locks.specs.declared.UpdateRefusal.TheVariants as update;
+ghost use Rattle.locks.specs.declared.DroppingRefusal.TheVariants as dropping;
 
 use ids::LockId;
-use lookups::{FoundActive, Truth};
-use operations::answers::{Acknowledged, Acknowledgement};
-use rules::Verdict;
+use operations::answers::{Left, StateRefusal};
+use rules::Unsound;
 use state::{ActiveLock, DefunctLock, LockState, ScopeKey};
 
 // The response class of a refusal number.
-#[derive(Clone, Copy)]
+#[derive(Clone, Copy, PartialEq, Eq)]
 pub enum Response {
-    Nothing,
     BadRequest,
     Conflict,
     InternalServerError,
     Forbidden,
 }
 
-#[derive(Clone, Copy)]
-pub enum Owner {
-    UnsoundState(u8),
-    Nothing,
-    Subject(u16),
-}
-
-// The generation that holds afterwards, or the refusal.
-#[derive(Clone, Copy)]
-pub enum Update {
+// Why a runtime update may not begin.
+#[derive(Clone, Copy, PartialEq, Eq)]
+pub enum UpdateRefusal {
     UnsoundState(u8),
     FunctionalGroupLocksHeld,
     EcuLocksHeld,
-    Generation(u64),
 }
 
-// Done is the original's true, Absent its false.
-#[derive(Clone, Copy)]
-pub enum Dropping {
-    Done,
-    Absent,
+// Why a defunct entry is not deleted.
+#[derive(Clone, Copy, PartialEq, Eq)]
+pub enum DroppingRefusal {
     RevisionOverflow,
     UnsoundState(u8),
     Forbidden,
 }
 
-#[derive(Clone, Copy)]
-pub struct Dropped {
-    pub told: Dropping,
-    pub state: LockState,
+// What a deletion tells: whether the entry was there, on that scope, and went. The state beside it is the one that is left.
+pub type Dropped = Left<Result<bool, DroppingRefusal>>;
+
+impl From<Unsound> for UpdateRefusal {
+    ghost from_gives = { λ u e. e ≡ update.UnsoundState (rule_of u) };
+
+    fn from(u: Unsound) -> UpdateRefusal {
+        let Unsound::Rule(n) = u;
+        UpdateRefusal::UnsoundState(n)
+    }
 }
 
-// Whether some active lock is on a group, and whether some is on an ECU.
-#[derive(Clone, Copy)]
-struct Kinds {
-    groups: bool,
-    ecus: bool,
+impl From<Unsound> for DroppingRefusal {
+    ghost from_gives = { λ u e. e ≡ dropping.UnsoundState (rule_of u) };
+
+    fn from(u: Unsound) -> DroppingRefusal {
+        let Unsound::Rule(n) = u;
+        DroppingRefusal::UnsoundState(n)
+    }
 }
 
 // The original's map_state_error, by numbers.
-pub fn response_class(number: u64) -> Response
+pub fn response_class(number: u64) -> Option<Response>
     ensures { result ≡ response_of number }
 {
     match number {
-        10 => Response::BadRequest,
-        2 | 6..=7 | 9 => Response::Conflict,
-        1 | 3..=5 | 8 | 11 => Response::InternalServerError,
-        26 => Response::Forbidden,
-        _ => Response::Nothing,
+        10 => Some(Response::BadRequest),
+        2 | 6..=7 | 9 => Some(Response::Conflict),
+        1 | 3..=5 | 8 | 11 => Some(Response::InternalServerError),
+        26 => Some(Response::Forbidden),
+        _ => None,
     }
 }
 
-fn owner_of(f: FoundActive) -> Owner
-    ensures { result ≡ owner_of f }
-{
-    match f {
-        FoundActive::UnsoundState(n) => Owner::UnsoundState(n),
-        FoundActive::Nothing => Owner::Nothing,
-        FoundActive::Lock(a) => Owner::Subject(a.lock.subject),
-    }
-}
-
-pub fn vehicle_lock_owner_sub(s: LockState) -> Owner
+pub fn vehicle_lock_owner_sub(s: LockState) -> Result<Option<u16>, Unsound>
     ensures { result ≡ vehicle_owner_on s }
 {
-    let f = lookups::reads::active_for_scope(s, ScopeKey::Vehicle);
-    owner_of(f)
-}
-
-fn kinds_held(locks: [ActiveLock; LockState::ACTIVE], n: usize) -> Kinds
-    requires { n ≤ 64 }
-    ensures { result ≡ kinds_of (take n locks) }
-{
-    let mut groups = false;
-    let mut ecus = false;
-    let mut i: usize = 0;
-    while i < n {
-        let a = locks[i];
-        let lock = a.lock;
-        let scope = lock.scope;
-        let g = state::is_group(scope);
-        groups = groups | g;
-        ecus = ecus | (!state::is_vehicle(scope) & !g);
-        i += 1;
+    match lookups::reads::active_for_scope(s, ScopeKey::Vehicle)? {
+        Some(a) => Ok(Some(a.lock.subject)),
+        None => Ok(None),
     }
-    Kinds { groups, ecus }
 }
 
-pub fn has_non_vehicle_locks(s: LockState) -> Truth
+// A test of a line each, so not one function that takes it.
+fn has_group(locks: &[ActiveLock]) -> bool
+    ensures { result ≡ list_any (λ a. is_group a.lock.scope) locks.now }
+{
+    locks.iter().any(|a| state::is_group(a.lock.scope))
+}
+
+fn has_other(locks: &[ActiveLock]) -> bool
+    ensures { result ≡ list_any (λ a. not (is_vehicle a.lock.scope)) locks.now }
+{
+    locks.iter().any(|a| !state::is_vehicle(a.lock.scope))
+}
+
+pub fn has_non_vehicle_locks(s: LockState) -> Result<bool, Unsound>
     ensures { result ≡ has_non_vehicle_on s }
 {
-    let v = rules::broken(s);
-    if let Verdict::Broken(n) = v {
-        return Truth::UnsoundState(n);
-    }
-    let locks = s.active;
-    let k = kinds_held(locks, s.actives);
-    Truth::Is(k.groups | k.ecus)
-}
-
-fn raise(generation: u64) -> u64
-    ensures { result ≡ raised generation }
-{
-    if generation == u64::MAX {
-        return generation;
-    }
-    generation + 1
+    rules::broken(s)?;
+    Ok(has_other(s.active_locks()))
 }
 
 // The generation is kept outside the state: a runtime update needs only vehicle locks, or none.
-pub fn prepare_runtime_update(s: LockState, generation: u64) -> Update
+pub fn prepare_runtime_update(s: LockState, generation: u64) -> Result<u64, UpdateRefusal>
     ensures { result ≡ prepare_update_on s generation }
 {
-    let v = rules::broken(s);
-    if let Verdict::Broken(n) = v {
-        return Update::UnsoundState(n);
+    rules::broken(s)?;
+    if has_group(s.active_locks()) {
+        return Err(UpdateRefusal::FunctionalGroupLocksHeld);
     }
-    let locks = s.active;
-    let k = kinds_held(locks, s.actives);
-    if k.groups {
-        return Update::FunctionalGroupLocksHeld;
+    // no group's, so an ECU's
+    if has_other(s.active_locks()) {
+        return Err(UpdateRefusal::EcuLocksHeld);
     }
-    if k.ecus {
-        return Update::EcuLocksHeld;
-    }
-    let next = raise(generation);
-    Update::Generation(next)
+    Ok(generation.saturating_add(1))
 }
 
-fn judge_entry(d: DefunctLock, scope: ScopeKey, subject: u16) -> Dropping
+fn judge_entry(d: DefunctLock, scope: ScopeKey, subject: u16) -> Result<bool, DroppingRefusal>
     ensures { result ≡ judge_entry scope subject d }
 {
-    let lock = d.lock;
-    let own = lock.scope;
-    if !state::same_scope(own, scope) {
-        return Dropping::Absent;
+    if !state::same_scope(d.lock.scope, scope) {
+        return Ok(false);
     }
-    if lock.subject != subject {
-        return Dropping::Forbidden;
+    if d.lock.subject != subject {
+        return Err(DroppingRefusal::Forbidden);
     }
-    Dropping::Done
+    Ok(true)
 }
 
-// Done where the entry may go. The state is not tested yet, so a count past the limit is taken as the limit.
-fn judge(s: LockState, id: LockId, scope: ScopeKey, subject: u16) -> Dropping
-    ensures { result ≡ judge_drop scope subject (find (has_id_d id) (model_of s).defunct) }
+// Whether the entry may go. The state is not tested yet, so a count past the limit is taken as the limit.
+fn judge(s: &LockState, id: LockId, scope: ScopeKey, subject: u16) -> Result<bool, DroppingRefusal>
+    ensures { result ≡ judge_drop scope subject (find (has_id_d id) (model_of s.now).defunct) }
 {
-    let n = s.defuncts;
-    let mut i: usize = 0;
-    while i < LockState::DEFUNCT {
-        if n <= i {
-            return Dropping::Absent;
-        }
-        let d = s.defunct[i];
-        i += 1;
-        if state::has_id_defunct(id, d) {
-            return judge_entry(d, scope, subject);
-        }
-    }
-    Dropping::Absent
-}
-
-fn as_dropping(a: Acknowledgement) -> Dropping
-    ensures { result ≡ as_dropping a }
-{
-    match a {
-        Acknowledgement::Done => Dropping::Done,
-        Acknowledgement::Absent => Dropping::Absent,
-        Acknowledgement::RevisionOverflow => Dropping::RevisionOverflow,
-        Acknowledgement::UnsoundState(n) => Dropping::UnsoundState(n),
+    match s.find_defunct(id) {
+        Some(d) => judge_entry(d, scope, subject),
+        None => Ok(false),
     }
 }
 
-fn as_dropped(r: Acknowledged) -> Dropped
-    ensures { result ≡ as_dropped r }
+fn as_dropping(told: Result<bool, StateRefusal>) -> Result<bool, DroppingRefusal>
+    ensures { result ≡ as_dropping told }
 {
-    let a = r.told;
-    let told = as_dropping(a);
-    let state = r.state;
-    Dropped { told, state }
+    match told {
+        Ok(gone) => Ok(gone),
+        Err(StateRefusal::RevisionOverflow) => Err(DroppingRefusal::RevisionOverflow),
+        Err(StateRefusal::UnsoundState(n)) => Err(DroppingRefusal::UnsoundState(n)),
+    }
+}
+
+// Nothing is deleted: 12 comes before what is told.
+fn untouched(s: LockState, told: Result<bool, DroppingRefusal>) -> Dropped
+    ensures { result ≡ on_sound s (λ rule. dropped (Err (dropping.UnsoundState rule)) s) (dropped told s) }
+{
+    match rules::broken(s) {
+        Ok(()) => Left { told, state: s },
+        Err(why) => Left {
+            told: Err(DroppingRefusal::from(why)),
+            state: s,
+        },
+    }
 }
 
 // The judgement comes first and the test after it, so that the state is tested once: an acknowledgement tests it itself.
 pub fn delete_defunct(s: LockState, id: LockId, scope: ScopeKey, subject: u16) -> Dropped
     ensures { result ≡ delete_defunct_on s id scope subject }
 {
-    let told = judge(s, id, scope, subject);
-    if let Dropping::Done = told {
-        let r = operations::acknowledge::acknowledge_defunct(s, id);
-        return as_dropped(r);
-    }
-    let v = rules::broken(s);
-    match v {
-        Verdict::Broken(n) => Dropped {
-            told: Dropping::UnsoundState(n),
-            state: s,
-        },
-        Verdict::Sound => Dropped { told, state: s },
+    match judge(&s, id, scope, subject) {
+        Ok(true) => {
+            let r = operations::acknowledge::acknowledge_defunct(s, id);
+            Left {
+                told: as_dropping(r.told),
+                state: r.state,
+            }
+        }
+        Ok(false) => untouched(s, Ok(false)),
+        Err(why) => untouched(s, Err(why)),
     }
 }

@@ -1,7 +1,7 @@
 -- No two answers of a read have one paper: from document 01's number and values the answer is read back. Assumes nothing.
 use mathlib.Core.Bool.{Bool, true, false}
 use mathlib.Core.List.{[], ◌∷◌}
-use mathlib.Core.Path.{◌≡◌, refl, ap, ◌∙◌}
+use mathlib.Core.Path.{◌≡◌, refl, sym, ap, ◌∙◌}
 use Prim.Native.Nat.{ℕ, ◌+◌}
 use lib.Dec.{eqb}
 use Rattle.lists.specs.Papers.{Paper}
@@ -12,24 +12,14 @@ use Rattle.state.specs.declared.ScopeKey.TheVariants.{Vehicle, Ecu, FunctionalGr
 use Rattle.state.specs.declared.Lock.{Lock}
 use Rattle.state.specs.declared.ActiveLock.{ActiveLock}
 use Rattle.state.specs.declared.DefunctLock.{DefunctLock}
-use Rattle.rules.specs.declared.Verdict.{Verdict}
-use Rattle.rules.specs.declared.Verdict.TheVariants.{Sound, Broken}
-use Rattle.lookups.specs.declared.FoundActive.{FoundActive}
-use Rattle.lookups.specs.declared.FoundActive.TheVariants as active
-use Rattle.lookups.specs.declared.FoundDefunct.{FoundDefunct}
-use Rattle.lookups.specs.declared.FoundDefunct.TheVariants as defunct
-use Rattle.lookups.specs.declared.Revision.{Revision}
-use Rattle.lookups.specs.declared.Revision.TheVariants as revision
-use Rattle.lookups.specs.declared.Truth.{Truth}
-use Rattle.lookups.specs.declared.Truth.TheVariants as truth
-use Rattle.lookups.specs.declared.Listed.{Listed}
-use Rattle.lookups.specs.declared.Listed.TheVariants as listed
+use Rattle.std.specs.Prelude.{Result, Option, Ok, Err, Some, None, ⊤}
+use Rattle.rules.specs.declared.Unsound.{Unsound}
+use Rattle.rules.specs.declared.Unsound.TheVariants.{Rule}
+use Rattle.lookups.specs.declared.Narrow.{Narrow}
 use Rattle.lookups.specs.declared.TesterPresent.TheVariants as present
-use Rattle.lookups.specs.declared.Needed.{Needed}
-use Rattle.lookups.specs.declared.Needed.TheVariants as needed
+use Rattle.lookups.specs.declared.TesterPresent.{TesterPresent}
 use Rattle.lookups.specs.declared.Holder.{Holder}
-use Rattle.lookups.specs.declared.Holder.TheVariants as holder
-use Rattle.lookups.specs.Papers.{flag_value, verdict_paper, found_active_paper, found_defunct_paper, revision_paper, truth_paper, listed_paper, needed_paper, holder_paper}
+use Rattle.lookups.specs.Papers.{flag_value, verdict_paper, found_active_paper, found_defunct_paper, revision_paper, truth_paper, count_told, listed_paper, needed_paper, holder_paper}
 
 abbrev pub id_at : Paper → ℕ → LockId
 id_at p k = record { hi = value_at p k; lo = value_at p (k + 1) }
@@ -45,15 +35,15 @@ abbrev scope_of : ℕ → ℕ → ScopeKey
 scope_of k n = pick k ((1, Ecu n) ∷ (2, FunctionalGroup n) ∷ []) Vehicle
 
 -- ---- the test of a state
-verdict_of : Paper → Verdict
-verdict_of p = pick p.number ((12, Broken (value_at p 0)) ∷ []) Sound
+verdict_of : Paper → Result ⊤ Unsound
+verdict_of p = pick p.number ((12, (Err (Rule (value_at p 0)))) ∷ []) (Ok tt)
 
-verdict_back : (v : Verdict) → verdict_of (verdict_paper v) ≡ v
+verdict_back : (v : Result ⊤ Unsound) → verdict_of (verdict_paper v) ≡ v
 unfolding verdict_of verdict_paper
-verdict_back Sound = refl
-verdict_back (Broken n) = refl
+verdict_back (Ok tt) = refl
+verdict_back (Err (Rule n)) = refl
 
-pub verdict_one : (a b : Verdict) → verdict_paper a ≡ verdict_paper b → a ≡ b
+pub verdict_one : (a b : Result ⊤ Unsound) → verdict_paper a ≡ verdict_paper b → a ≡ b
 verdict_one = one_to_one verdict_paper verdict_of verdict_back
 
 -- ---- locks: the flags are read back, once the scope stands
@@ -94,15 +84,15 @@ lock_at p k =
     }
 
 -- ---- an active lock, found
-abbrev active_with : ActiveLock → Lock → Bool → FoundActive
-active_with a l c = active.Lock (record { lock = l; parent = a.parent; expires = a.expires; child = c })
+abbrev active_with : ActiveLock → Lock → Bool → Result (Option ActiveLock) Unsound
+active_with a l c = Ok (Some (record { lock = l; parent = a.parent; expires = a.expires; child = c }))
 
-found_active_of : Paper → FoundActive
+found_active_of : Paper → Result (Option ActiveLock) Unsound
 found_active_of p =
-    pick p.number ((12, active.UnsoundState (value_at p 0)) ∷ [])
+    pick p.number ((12, (Err (Rule (value_at p 0)))) ∷ [])
     (pick (value_at p 0)
-    ((0, active.Nothing) ∷ [])
-    (active.Lock (record { lock = lock_at p 1; parent = id_at p 16; expires = value_at p 14; child = flag_of (value_at p 15) })))
+    ((0, (Ok None)) ∷ [])
+    (Ok (Some (record { lock = lock_at p 1; parent = id_at p 16; expires = value_at p 14; child = flag_of (value_at p 15) }))))
 
 active_flags : (a : ActiveLock) (s : ScopeKey)
     → active_with a (lock_with a.lock s (flag_of (flag_value a.lock.exclusive)) (flag_of (flag_value a.lock.coverage.whole))) (flag_of (flag_value a.child))
@@ -119,27 +109,26 @@ active_back a Vehicle = active_flags a Vehicle
 active_back a (Ecu n) = active_flags a (Ecu n)
 active_back a (FunctionalGroup n) = active_flags a (FunctionalGroup n)
 
-found_active_back : (f : FoundActive) → found_active_of (found_active_paper f) ≡ f
+found_active_back : (f : Result (Option ActiveLock) Unsound) → found_active_of (found_active_paper f) ≡ f
 unfolding found_active_of found_active_paper
-found_active_back (active.UnsoundState n) = refl
-found_active_back active.Nothing = refl
-found_active_back (active.Lock a) = active_back a a.lock.scope
+found_active_back (Err (Rule n)) = refl
+found_active_back (Ok None) = refl
+found_active_back (Ok (Some a)) = active_back a a.lock.scope
 
-pub found_active_one : (f g : FoundActive) → found_active_paper f ≡ found_active_paper g → f ≡ g
+pub found_active_one : (f g : Result (Option ActiveLock) Unsound) → found_active_paper f ≡ found_active_paper g → f ≡ g
 found_active_one = one_to_one found_active_paper found_active_of found_active_back
 
 -- ---- a defunct entry, found
-abbrev defunct_with : DefunctLock → Lock → FoundDefunct
+abbrev defunct_with : DefunctLock → Lock → Result (Option DefunctLock) Unsound
 defunct_with d l =
-    defunct.Lock (record { lock = l; target = d.target; expires = d.expires; broken = d.broken; breaker = d.breaker; holder = d.holder })
+    Ok (Some (record { lock = l; target = d.target; expires = d.expires; broken = d.broken; breaker = d.breaker; holder = d.holder }))
 
-found_defunct_of : Paper → FoundDefunct
+found_defunct_of : Paper → Result (Option DefunctLock) Unsound
 found_defunct_of p =
-    pick p.number ((12, defunct.UnsoundState (value_at p 0)) ∷ [])
+    pick p.number ((12, (Err (Rule (value_at p 0)))) ∷ [])
     (pick (value_at p 0)
-    ((0, defunct.Nothing) ∷ [])
-    (defunct.Lock
-    (record { lock = lock_at p 1; target = id_at p 17; expires = value_at p 14; broken = value_at p 15; breaker = value_at p 16; holder = value_at p 19 })))
+    ((0, (Ok None)) ∷ [])
+    (Ok (Some (record { lock = lock_at p 1; target = id_at p 17; expires = value_at p 14; broken = value_at p 15; breaker = value_at p 16; holder = value_at p 19 }))))
 
 defunct_back : (d : DefunctLock) (s : ScopeKey)
     → found_defunct_of (found_defunct_paper (defunct_with d (lock_with d.lock s d.lock.exclusive d.lock.coverage.whole)))
@@ -149,74 +138,71 @@ defunct_back d Vehicle = ap (defunct_with d) (flags_back d.lock Vehicle)
 defunct_back d (Ecu n) = ap (defunct_with d) (flags_back d.lock (Ecu n))
 defunct_back d (FunctionalGroup n) = ap (defunct_with d) (flags_back d.lock (FunctionalGroup n))
 
-found_defunct_back : (f : FoundDefunct) → found_defunct_of (found_defunct_paper f) ≡ f
+found_defunct_back : (f : Result (Option DefunctLock) Unsound) → found_defunct_of (found_defunct_paper f) ≡ f
 unfolding found_defunct_of found_defunct_paper
-found_defunct_back (defunct.UnsoundState n) = refl
-found_defunct_back defunct.Nothing = refl
-found_defunct_back (defunct.Lock d) = defunct_back d d.lock.scope
+found_defunct_back (Err (Rule n)) = refl
+found_defunct_back (Ok None) = refl
+found_defunct_back (Ok (Some d)) = defunct_back d d.lock.scope
 
-pub found_defunct_one : (f g : FoundDefunct) → found_defunct_paper f ≡ found_defunct_paper g → f ≡ g
+pub found_defunct_one : (f g : Result (Option DefunctLock) Unsound) → found_defunct_paper f ≡ found_defunct_paper g → f ≡ g
 found_defunct_one = one_to_one found_defunct_paper found_defunct_of found_defunct_back
 
 -- ---- the revision, a truth, a count of ids
-revision_of : Paper → Revision
-revision_of p = pick p.number ((12, revision.UnsoundState (value_at p 0)) ∷ []) (revision.At (value_at p 0))
+revision_of : Paper → Result ℕ Unsound
+revision_of p = pick p.number ((12, (Err (Rule (value_at p 0)))) ∷ []) (Ok (value_at p 0))
 
-revision_back : (a : Revision) → revision_of (revision_paper a) ≡ a
+revision_back : (a : Result ℕ Unsound) → revision_of (revision_paper a) ≡ a
 unfolding revision_of revision_paper
-revision_back (revision.UnsoundState n) = refl
-revision_back (revision.At r) = refl
+revision_back (Err (Rule n)) = refl
+revision_back (Ok r) = refl
 
-pub revision_one : (a b : Revision) → revision_paper a ≡ revision_paper b → a ≡ b
+pub revision_one : (a b : Result ℕ Unsound) → revision_paper a ≡ revision_paper b → a ≡ b
 revision_one = one_to_one revision_paper revision_of revision_back
 
-truth_of : Paper → Truth
-truth_of p = pick p.number ((12, truth.UnsoundState (value_at p 0)) ∷ []) (truth.Is (flag_of (value_at p 0)))
+truth_of : Paper → Result Bool Unsound
+truth_of p = pick p.number ((12, (Err (Rule (value_at p 0)))) ∷ []) (Ok (flag_of (value_at p 0)))
 
-truth_back : (a : Truth) → truth_of (truth_paper a) ≡ a
+truth_back : (a : Result Bool Unsound) → truth_of (truth_paper a) ≡ a
 unfolding truth_of truth_paper
-truth_back (truth.UnsoundState n) = refl
-truth_back (truth.Is b) = ap truth.Is (flag_back b)
+truth_back (Err (Rule n)) = refl
+truth_back (Ok b) = ap Ok (flag_back b)
 
-pub truth_one : (a b : Truth) → truth_paper a ≡ truth_paper b → a ≡ b
+pub truth_one : (a b : Result Bool Unsound) → truth_paper a ≡ truth_paper b → a ≡ b
 truth_one = one_to_one truth_paper truth_of truth_back
 
-listed_of : Paper → Listed
-listed_of p = pick p.number ((12, listed.UnsoundState (value_at p 0)) ∷ []) (listed.Ids (value_at p 0))
+listed_back : (a : Result Narrow Unsound) → revision_of (listed_paper a) ≡ count_told a
+unfolding revision_of listed_paper
+listed_back (Err (Rule n)) = refl
+listed_back (Ok w) = refl
 
-listed_back : (a : Listed) → listed_of (listed_paper a) ≡ a
-unfolding listed_of listed_paper
-listed_back (listed.UnsoundState n) = refl
-listed_back (listed.Ids n) = refl
-
-pub listed_one : (a b : Listed) → listed_paper a ≡ listed_paper b → a ≡ b
-listed_one = one_to_one listed_paper listed_of listed_back
+pub listed_one : (a b : Result Narrow Unsound) → listed_paper a ≡ listed_paper b → count_told a ≡ count_told b
+listed_one a b e = sym (listed_back a) ∙ ap revision_of e ∙ listed_back b
 
 -- ---- what keeps a tester present, and the holder
-needed_of : Paper → Needed
+needed_of : Paper → Result (Option TesterPresent) Unsound
 needed_of p =
-    pick p.number ((12, needed.UnsoundState (value_at p 0)) ∷ [])
+    pick p.number ((12, (Err (Rule (value_at p 0)))) ∷ [])
     (pick (value_at p 0)
-    ((1, needed.Present (present.Ecu (value_at p 1))) ∷ (2, needed.Present (present.Functional (value_at p 1))) ∷ [])
-    needed.Nothing)
+    ((1, (Ok (Some (present.Ecu (value_at p 1))))) ∷ (2, (Ok (Some (present.Functional (value_at p 1))))) ∷ [])
+    (Ok None))
 
-needed_back : (a : Needed) → needed_of (needed_paper a) ≡ a
+needed_back : (a : Result (Option TesterPresent) Unsound) → needed_of (needed_paper a) ≡ a
 unfolding needed_of needed_paper
-needed_back (needed.UnsoundState n) = refl
-needed_back needed.Nothing = refl
-needed_back (needed.Present (present.Ecu e)) = refl
-needed_back (needed.Present (present.Functional g)) = refl
+needed_back (Err (Rule n)) = refl
+needed_back (Ok None) = refl
+needed_back (Ok (Some (present.Ecu e))) = refl
+needed_back (Ok (Some (present.Functional g))) = refl
 
-pub needed_one : (a b : Needed) → needed_paper a ≡ needed_paper b → a ≡ b
+pub needed_one : (a b : Result (Option TesterPresent) Unsound) → needed_paper a ≡ needed_paper b → a ≡ b
 needed_one = one_to_one needed_paper needed_of needed_back
 
-holder_in : Paper → Holder
-holder_in p = pick p.number ((12, holder.UnsoundState (value_at p 0)) ∷ []) (holder.Held (value_at p 0) (value_at p 1))
+holder_in : Paper → Result Holder Unsound
+holder_in p = pick p.number ((12, (Err (Rule (value_at p 0)))) ∷ []) (Ok (record { subject = value_at p 0; links = value_at p 1 }))
 
-holder_back : (a : Holder) → holder_in (holder_paper a) ≡ a
+holder_back : (a : Result Holder Unsound) → holder_in (holder_paper a) ≡ a
 unfolding holder_in holder_paper
-holder_back (holder.UnsoundState n) = refl
-holder_back (holder.Held h c) = refl
+holder_back (Err (Rule n)) = refl
+holder_back (Ok h) = refl
 
-pub holder_one : (a b : Holder) → holder_paper a ≡ holder_paper b → a ≡ b
+pub holder_one : (a b : Result Holder Unsound) → holder_paper a ≡ holder_paper b → a ≡ b
 holder_one = one_to_one holder_paper holder_in holder_back

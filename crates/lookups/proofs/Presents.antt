@@ -4,7 +4,7 @@
 use mathlib.Core.Path.{◌≡◌, refl, sym, ◌∙◌, subst}
 use mathlib.Core.Bool.{Bool, true, false, cond}
 use mathlib.Core.List.{List}
-use mathlib.Core.Option.{none, some}
+use Rattle.std.specs.Prelude.{None, Some}
 use Prim.Native.Nat.{ℕ, ◌+◌, ◌*◌}
 use native.Mathlib.Omega.{arith}
 use native.Mathlib.Decide.{ℕ_discrete}
@@ -23,35 +23,34 @@ use Rattle.state.proofs.Laws.{same_scope_one, same_scope_refl}
 use Rattle.rules.specs.Rules.{rule2, in_order}
 use Rattle.lookups.specs.declared.TesterPresent.{TesterPresent}
 use Rattle.lookups.specs.declared.TesterPresent.TheVariants as present
-use Rattle.lookups.specs.declared.Needed.TheVariants as needed
-use Rattle.lookups.specs.Reads.{on_scope, group_over, present_for, told_present, same_present, needs}
+use Rattle.lookups.specs.Reads.{on_scope, group_over, present_for, same_present, needs}
 use Rattle.lookups.specs.Code.{scope_of, own_need, Alone}
 
 -- ---- by the scope
 module _ (l : List ActiveLock) (subject : ℕ) (k : ScopeKey) where
-  pub of_vehicle : k ≡ Vehicle → needed.Nothing ≡ told_present (present_for l subject k)
+  pub of_vehicle : k ≡ Vehicle → None ≡ present_for l subject k
   unfolding present_for
   of_vehicle e = rw e
 
-  pub of_group : (g : ℕ) → k ≡ FunctionalGroup g → needed.Present (present.Functional g) ≡ told_present (present_for l subject k)
+  pub of_group : (g : ℕ) → k ≡ FunctionalGroup g → Some (present.Functional g) ≡ present_for l subject k
   unfolding present_for
   of_group g e = rw e
 
-  pub of_covered : (n : ℕ) → k ≡ Ecu n → any (group_over subject n) l ≡ true → needed.Nothing ≡ told_present (present_for l subject k)
+  pub of_covered : (n : ℕ) → k ≡ Ecu n → any (group_over subject n) l ≡ true → None ≡ present_for l subject k
   unfolding present_for
   of_covered n e t = rw (e, t)
 
-  pub of_ecu : (n : ℕ) → k ≡ Ecu n → any (group_over subject n) l ≡ false → needed.Present (present.Ecu n) ≡ told_present (present_for l subject k)
+  pub of_ecu : (n : ℕ) → k ≡ Ecu n → any (group_over subject n) l ≡ false → Some (present.Ecu n) ≡ present_for l subject k
   unfolding present_for
   of_ecu n e t = rw (e, t)
 
 -- ---- only a lock on its scope needs it
-of_own : (b : Bool) (e n : ℕ) → same_present (present.Ecu e) (cond b none (some (present.Ecu n))) ≡ (eqb e n and non b)
+of_own : (b : Bool) (e n : ℕ) → same_present (present.Ecu e) (cond b None (Some (present.Ecu n))) ≡ (eqb e n and non b)
 unfolding same_present ◌and◌ non
 of_own true e n = elim (eqb e n) as (λ x. false ≡ (x and false)) [ true ↦ refl | false ↦ refl ]
 of_own false e n = elim (eqb e n) as (λ x. x ≡ (x and true)) [ true ↦ refl | false ↦ refl ]
 
-not_ecu : (b : Bool) (g n : ℕ) → same_present (present.Functional g) (cond b none (some (present.Ecu n))) ≡ false
+not_ecu : (b : Bool) (g n : ℕ) → same_present (present.Functional g) (cond b None (Some (present.Ecu n))) ≡ false
 unfolding same_present
 not_ecu true g n = refl
 not_ecu false g n = refl
@@ -78,13 +77,13 @@ module _ (l : List ActiveLock) (t : TesterPresent) where
   needs_is a = by_scope l t a.lock.subject a.lock.scope
 
   -- no lock on the scope: none needs it
-  pub none_needs : (k : ScopeKey) → k ≡ scope_of t → find (on_scope k) l ≡ none → false ≡ any (needs l t) l
+  pub none_needs : (k : ScopeKey) → k ≡ scope_of t → find (on_scope k) l ≡ None → false ≡ any (needs l t) l
   none_needs k q e = sym (→no (any (needs l t) l) (λ u.
       let w = any→ (needs l t) l u in
       find_none→ (on_scope (scope_of t)) l (rw q at e) w.1 (and_l _ _ (sym (needs_is w.0) ∙ w.2))))
 
   -- the lock on the scope says it
-  pub one_needs : Alone l → (k : ScopeKey) → k ≡ scope_of t → (a : ActiveLock) → find (on_scope k) l ≡ some a → own_need l a.lock.subject t ≡ any (needs l t) l
+  pub one_needs : Alone l → (k : ScopeKey) → k ≡ scope_of t → (a : ActiveLock) → find (on_scope k) l ≡ Some a → own_need l a.lock.subject t ≡ any (needs l t) l
   one_needs one k q a e = same_test (own_need l a.lock.subject t) (any (needs l t) l)
       (λ u. →any (needs l t) f.0 (needs_is a ∙ and_i _ _ f.1 u))
       (λ u.

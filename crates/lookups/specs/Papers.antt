@@ -9,23 +9,13 @@ use Rattle.state.specs.declared.ScopeKey.TheVariants.{Vehicle, Ecu, FunctionalGr
 use Rattle.state.specs.declared.Lock.{Lock}
 use Rattle.state.specs.declared.ActiveLock.{ActiveLock}
 use Rattle.state.specs.declared.DefunctLock.{DefunctLock}
-use Rattle.rules.specs.declared.Verdict.{Verdict}
-use Rattle.rules.specs.declared.Verdict.TheVariants.{Sound, Broken}
-use Rattle.lookups.specs.declared.FoundActive.{FoundActive}
-use Rattle.lookups.specs.declared.FoundActive.TheVariants as active
-use Rattle.lookups.specs.declared.FoundDefunct.{FoundDefunct}
-use Rattle.lookups.specs.declared.FoundDefunct.TheVariants as defunct
-use Rattle.lookups.specs.declared.Revision.{Revision}
-use Rattle.lookups.specs.declared.Revision.TheVariants as revision
-use Rattle.lookups.specs.declared.Truth.{Truth}
-use Rattle.lookups.specs.declared.Truth.TheVariants as truth
-use Rattle.lookups.specs.declared.Listed.{Listed}
-use Rattle.lookups.specs.declared.Listed.TheVariants as listed
+use Rattle.std.specs.Prelude.{Result, Option, Ok, Err, Some, None, ⊤}
+use Rattle.rules.specs.declared.Unsound.{Unsound}
+use Rattle.rules.specs.declared.Unsound.TheVariants.{Rule}
+use Rattle.lookups.specs.declared.Narrow.{Narrow}
 use Rattle.lookups.specs.declared.TesterPresent.TheVariants as present
-use Rattle.lookups.specs.declared.Needed.{Needed}
-use Rattle.lookups.specs.declared.Needed.TheVariants as needed
+use Rattle.lookups.specs.declared.TesterPresent.{TesterPresent}
 use Rattle.lookups.specs.declared.Holder.{Holder}
-use Rattle.lookups.specs.declared.Holder.TheVariants as holder
 
 -- ---- locks as values: an id is its two halves
 abbrev pub id_values : LockId → List ℕ → List ℕ
@@ -57,41 +47,45 @@ abbrev pub defunct_values : DefunctLock → List ℕ
 defunct_values d = lock_values d.lock (d.expires ∷ (d.broken ∷ (d.breaker ∷ id_values d.target (d.holder ∷ []))))
 
 -- ---- the test of a state: "The lowest broken rule is named."
-unfoldable pub verdict_paper : Verdict → Paper
-verdict_paper Sound = paper 0 []
-verdict_paper (Broken n) = paper 12 (n ∷ [])
+unfoldable pub verdict_paper : Result ⊤ Unsound → Paper
+verdict_paper (Ok tt) = paper 0 []
+verdict_paper (Err (Rule n)) = paper 12 (n ∷ [])
 
 -- ---- the reads: a first value tells the cases of number 0 apart
-unfoldable pub found_active_paper : FoundActive → Paper
-found_active_paper (active.UnsoundState n) = paper 12 (n ∷ [])
-found_active_paper active.Nothing = paper 0 (0 ∷ [])
-found_active_paper (active.Lock a) = paper 0 (1 ∷ active_values a)
+unfoldable pub found_active_paper : Result (Option ActiveLock) Unsound → Paper
+found_active_paper (Err (Rule n)) = paper 12 (n ∷ [])
+found_active_paper (Ok None) = paper 0 (0 ∷ [])
+found_active_paper (Ok (Some a)) = paper 0 (1 ∷ active_values a)
 
-unfoldable pub found_defunct_paper : FoundDefunct → Paper
-found_defunct_paper (defunct.UnsoundState n) = paper 12 (n ∷ [])
-found_defunct_paper defunct.Nothing = paper 0 (0 ∷ [])
-found_defunct_paper (defunct.Lock d) = paper 0 (1 ∷ defunct_values d)
+unfoldable pub found_defunct_paper : Result (Option DefunctLock) Unsound → Paper
+found_defunct_paper (Err (Rule n)) = paper 12 (n ∷ [])
+found_defunct_paper (Ok None) = paper 0 (0 ∷ [])
+found_defunct_paper (Ok (Some d)) = paper 0 (1 ∷ defunct_values d)
 
-unfoldable pub revision_paper : Revision → Paper
-revision_paper (revision.UnsoundState n) = paper 12 (n ∷ [])
-revision_paper (revision.At r) = paper 0 (r ∷ [])
+unfoldable pub revision_paper : Result ℕ Unsound → Paper
+revision_paper (Err (Rule n)) = paper 12 (n ∷ [])
+revision_paper (Ok r) = paper 0 (r ∷ [])
 
-unfoldable pub truth_paper : Truth → Paper
-truth_paper (truth.UnsoundState n) = paper 12 (n ∷ [])
-truth_paper (truth.Is b) = paper 0 (flag_value b ∷ [])
+unfoldable pub truth_paper : Result Bool Unsound → Paper
+truth_paper (Err (Rule n)) = paper 12 (n ∷ [])
+truth_paper (Ok b) = paper 0 (flag_value b ∷ [])
 
 -- the count; the ids stand beside it
-unfoldable pub listed_paper : Listed → Paper
-listed_paper (listed.UnsoundState n) = paper 12 (n ∷ [])
-listed_paper (listed.Ids n) = paper 0 (n ∷ [])
+abbrev pub count_told : Result Narrow Unsound → Result ℕ Unsound
+count_told (Err (Rule n)) = Err (Rule n)
+count_told (Ok w) = Ok w.count
 
-unfoldable pub needed_paper : Needed → Paper
-needed_paper (needed.UnsoundState n) = paper 12 (n ∷ [])
-needed_paper needed.Nothing = paper 0 (0 ∷ [])
-needed_paper (needed.Present (present.Ecu e)) = paper 0 (1 ∷ (e ∷ []))
-needed_paper (needed.Present (present.Functional g)) = paper 0 (2 ∷ (g ∷ []))
+unfoldable pub listed_paper : Result Narrow Unsound → Paper
+listed_paper (Err (Rule n)) = paper 12 (n ∷ [])
+listed_paper (Ok w) = paper 0 (w.count ∷ [])
+
+unfoldable pub needed_paper : Result (Option TesterPresent) Unsound → Paper
+needed_paper (Err (Rule n)) = paper 12 (n ∷ [])
+needed_paper (Ok None) = paper 0 (0 ∷ [])
+needed_paper (Ok (Some (present.Ecu e))) = paper 0 (1 ∷ (e ∷ []))
+needed_paper (Ok (Some (present.Functional g))) = paper 0 (2 ∷ (g ∷ []))
 
 -- the subject, and the count of links
-unfoldable pub holder_paper : Holder → Paper
-holder_paper (holder.UnsoundState n) = paper 12 (n ∷ [])
-holder_paper (holder.Held h c) = paper 0 (h ∷ (c ∷ []))
+unfoldable pub holder_paper : Result Holder Unsound → Paper
+holder_paper (Err (Rule n)) = paper 12 (n ∷ [])
+holder_paper (Ok h) = paper 0 (h.subject ∷ (h.links ∷ []))

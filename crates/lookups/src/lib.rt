@@ -13,64 +13,26 @@ mod chain;
 pub mod reads;
 mod search;
 
-#[derive(Clone, Copy)]
-pub enum FoundActive {
-    UnsoundState(u8),
-    Nothing,
-    Lock(ActiveLock),
-}
-
-#[derive(Clone, Copy)]
-pub enum FoundDefunct {
-    UnsoundState(u8),
-    Nothing,
-    Lock(DefunctLock),
-}
-
-#[derive(Clone, Copy)]
-pub enum Revision {
-    UnsoundState(u8),
-    At(u64),
-}
-
-#[derive(Clone, Copy)]
-pub enum Truth {
-    UnsoundState(u8),
-    Is(bool),
-}
-
-#[derive(Clone, Copy)]
-pub enum Listed {
-    UnsoundState(u8),
-    Ids(usize),
-}
-
-// The ids of a list stand beside the answer: an enum holds no array.
-#[derive(Clone, Copy)]
+// The locks that a group lock covers: their number, and their ids, ascending; blanks after them. Fixed memory: a
+// list that is handed out has its places and their number.
+#[derive(Clone, Copy, PartialEq, Eq)]
 pub struct Narrow {
-    pub told: Listed,
+    pub count: usize,
     pub ids: [LockId; LockState::ACTIVE],
 }
 
 // What a lock needs to keep its control units in a session: the original's TesterPresentType.
-#[derive(Clone, Copy)]
+#[derive(Clone, Copy, PartialEq, Eq)]
 pub enum TesterPresent {
     Ecu(u8),
     Functional(u8),
 }
 
-#[derive(Clone, Copy)]
-pub enum Needed {
-    UnsoundState(u8),
-    Nothing,
-    Present(TesterPresent),
-}
-
 // Who holds what replaced a defunct lock, and how many defunct entries the walk passed after the given record.
-#[derive(Clone, Copy)]
-pub enum Holder {
-    UnsoundState(u8),
-    Held { subject: u16, links: u64 },
+#[derive(Clone, Copy, PartialEq, Eq)]
+pub struct Holder {
+    pub subject: u16,
+    pub links: u64,
 }
 
 // ---- tests of one lock, which the operations share

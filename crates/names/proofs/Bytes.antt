@@ -1,32 +1,40 @@
 -- Laws of names as bytes: what folding does, when two names are the same, a name's place in a list of names.
 -- Assumes nothing.
 use mathlib.Core.Path.{◌≡◌, refl, sym, ap, ap₂, ◌∙◌, subst}
-use mathlib.Core.Bool.{Bool, true, false, ◌&&◌, false≢true}
+use mathlib.Core.Bool.{Bool, true, false, false≢true}
 use mathlib.Core.List.{List, [], ◌∷◌, map}
 use Prim.Native.Nat.{ℕ, ◌+◌, ◌≤◌, ◌<◌}
 use native.Mathlib.Omega.{arith}
 use lib.Dec.{eqb, leb}
 use lib.ListN.{length, get_or, length-map, get_or-map}
-use lib.Seq.{ext_get_or}
-use borrow.Author.Tests.{eq-eqb, ne_eqb, eqb-true, le-leb, lt-leb, leb-true}
+use borrow.Author.Tests.{ltb-true, ltb-false, eq-eqb, eqb-true, le-leb, lt-leb, leb-true}
 use Rattle.lists.specs.Tests.{◌and◌, ◌imp◌, non, Yes, No}
-use Rattle.lists.proofs.Tests.{→no, by, and_l, and_r, and_i, and_f, and_code, non_t, non_f, non_yes, yes_non}
-use Rattle.lists.proofs.Places.{rest_yes, rest_no}
+use Rattle.lists.proofs.Tests.{→no, by, and_l, and_r, and_i, and_f, and_code, non_yes, yes_non}
+use Rattle.std.specs.Prelude.{◌==◌, not, ltb}
+use Rattle.std.specs.List.{list_all, zip}
+use Rattle.std.specs.Char.{to_ascii_lowercase, is_ascii_uppercase}
+use Rattle.lists.proofs.Tests.{cond_both, non_code}
+use Rattle.lists.proofs.Std.{all_std, all_as}
 use Rattle.names.specs.Bytes.{is_upper, fold1, keep1, kept, folded, same_bytes}
 use Rattle.names.specs.Table.{zeros}
 
 -- ---- a byte
-pub fold_low : (b : ℕ) → b < 0x41 → b ≡ fold1 b
+fold_low : (b : ℕ) → b < 0x41 → b ≡ fold1 b
 unfolding fold1 is_upper
 fold_low b h = rw (and_f _ (leb b 0x5A) (lt-leb 0x41 b h))
 
-pub fold_high : (b : ℕ) → 0x5A < b → b ≡ fold1 b
+fold_high : (b : ℕ) → 0x5A < b → b ≡ fold1 b
 unfolding fold1 is_upper ◌and◌
 fold_high b h = rw (lt-leb b 0x5A h, le-leb 0x41 b (omega arith))
 
-pub fold_upper : (b : ℕ) → 0x41 ≤ b → b ≤ 0x5A → b + 0x20 ≡ fold1 b
+fold_upper : (b : ℕ) → 0x41 ≤ b → b ≤ 0x5A → b + 0x20 ≡ fold1 b
 unfolding fold1 is_upper ◌and◌
 fold_upper b h k = rw (le-leb 0x41 b h, le-leb b 0x5A k)
+
+-- the library's folding is the one of the definitions
+pub to_lower : (b : ℕ) → to_ascii_lowercase b ≡ fold1 b
+to_lower b = cond_both (λ r. r ≡ fold1 b) _ _ (ltb b 65) (λ l. fold_low b (ltb-true b 65 l)) (λ h.
+    cond_both (λ r. r ≡ fold1 b) _ _ (ltb b 91) (λ l. fold_upper b (ltb-false b 65 h) (omega (arith, ltb-true b 91 l))) (λ g. fold_high b (omega (arith, ltb-false b 91 g))))
 
 pub keep_folding : (f : Bool) (b r : ℕ) → f ≡ true → r ≡ fold1 b → r ≡ keep1 f b
 unfolding keep1
@@ -78,34 +86,25 @@ module _ (s n : List ℕ) (f : Bool) where
   pub other_length : (length s ≡ length n → ⊥) → false ≡ same_bytes s (kept f n)
   other_length h = sym (not_same s (kept f n) (λ e. h (ap length e ∙ kept_length f n)))
 
-  pub other_byte : (i r : ℕ) → r ≡ keep1 f (get_or n i 0) → (get_or s i 0 ≡ r → ⊥) → false ≡ same_bytes s (kept f n)
-  other_byte i r q h = sym (not_same s (kept f n) (λ e. h (ap (λ (l : List ℕ). get_or l i 0) e ∙ kept_at f n i ∙ sym q)))
+-- with the library's tests: byte by byte, lengths being equal
+pub same_std : (s n : List ℕ) (f : Bool) → length s ≡ length n → list_all (λ (p : ℕ × ℕ). p.0 == keep1 f p.1) (zip s n) ≡ same_bytes s (kept f n)
+unfolding same_bytes kept
+same_std [] [] f e = refl
+same_std [] (y ∷ ys) f e = absurd (omega arith)
+same_std (x ∷ xs) [] f e = absurd (omega arith)
+same_std (x ∷ xs) (y ∷ ys) f e = and_code (x == keep1 f y) _ ∙ ap (λ (b : Bool). (x == keep1 f y) and b) (same_std xs ys f (omega arith))
 
-  pub same_bytes_lem : (i : ℕ) → length s ≡ length n → length n ≤ i → ((k : ℕ) → k < i → get_or s k 0 ≡ keep1 f (get_or n k 0)) → true ≡ same_bytes s (kept f n)
-  same_bytes_lem i e l g =
-      sym (→same s (kept f n) (ext_get_or 0 s (kept f n) (e ∙ sym (kept_length f n)) (λ k h. g k (omega arith) ∙ sym (kept_at f n k))))
+pub zeros_std : (b : List ℕ) → list_all (λ x. x == 0) b ≡ zeros b
+unfolding zeros
+zeros_std b = all_std (λ (x : ℕ). x == 0) b
 
--- ---- bytes that are all zero, or all no capital letter
-module _ (b : List ℕ) (i : ℕ) where
-  pub not_zero : i < length b → (get_or b i 0 ≡ 0 → ⊥) → false ≡ zeros b
-  unfolding zeros
-  not_zero h n = sym (rest_no (λ x. eqb x 0) b 0 0 i (omega arith) h (ne_eqb _ _ n))
+upper_std : (b : ℕ) → not (is_ascii_uppercase b) ≡ non (is_upper b)
+unfolding is_upper non ◌and◌
+upper_std b = ap not (and_code (leb 0x41 b) (leb b 0x5A)) ∙ non_code (leb 0x41 b and leb b 0x5A)
 
-  pub all_zero : length b ≤ i → ((k : ℕ) → k < i → get_or b k 0 ≡ 0) → true ≡ zeros b
-  unfolding zeros
-  all_zero l g = sym (rest_yes (λ x. eqb x 0) b 0 0 (λ k h m. eq-eqb _ _ (g k (omega arith))))
-
-  pub not_folded : i < length b → (leb 0x41 (get_or b i 0) && leb (get_or b i 0) 0x5A) ≡ true → false ≡ folded b
-  unfolding folded is_upper
-  not_folded h e = sym (rest_no (λ x. non (is_upper x)) b 0 0 i (omega arith) h (non_t (is_upper (get_or b i 0)) (sym (and_code _ _) ∙ e)))
-
-  pub all_folded : length b ≤ i → ((k : ℕ) → k < i → is_upper (get_or b k 0) ≡ false) → true ≡ folded b
-  unfolding folded
-  all_folded l g = sym (rest_yes (λ x. non (is_upper x)) b 0 0 (λ k h m. non_f (is_upper (get_or b k 0)) (g k (omega arith))))
-
-pub small : (b : ℕ) → (leb 0x41 b && leb b 0x5A) ≡ false → is_upper b ≡ false
-unfolding is_upper
-small b e = sym (and_code _ _) ∙ e
+pub folded_std : (b : List ℕ) → list_all (λ x. not (is_ascii_uppercase x)) b ≡ folded b
+unfolding folded
+folded_std b = all_as (λ (x : ℕ). non (is_upper x)) (λ (x : ℕ). not (is_ascii_uppercase x)) upper_std b
 
 -- ---- what folding leaves
 upper_from : (b : ℕ) → Yes (is_upper b) → 0x41 ≤ b

@@ -35,23 +35,23 @@ pub search_starts : (t x : List ℕ) (n : ℕ) → 0 + place_of x (names_from t 
 search_starts t x n = let e : n - 0 ≡ n = omega arith in let z : 0 + place_of x (names_from t 0 n) ≡ place_of x (names_from t 0 n) = omega arith in rw (e, z)
 
 module _ (t x : List ℕ) (n i w : ℕ) (was : i + place_of x (names_from t i (n - i)) ≡ w) where
-  pub found_there : (e s : List ℕ) (r : Bool) → i < n → e ≡ entry_at t i → s ≡ name_of e → r ≡ same_bytes s x → r ≡ true → i ≡ w
+  pub found_there : (s : List ℕ) (r : Bool) → i < n → s ≡ name_of (entry_at t i) → r ≡ same_bytes s x → r ≡ true → i ≡ w
   unfolding place_of
-  found_there e s r h p q u g =
-      let y : same_bytes (name_of (entry_at t i)) x ≡ true = rw (← p, ← q) (sym u ∙ g) in
+  found_there s r h q u g =
+      let y : same_bytes (name_of (entry_at t i)) x ≡ true = rw (← q) (sym u ∙ g) in
       let z : place_of x (names_from t i (n - i)) ≡ 0 = rw (names_step t n i h, y) in
       omega arith
 
-  pub not_there : (e s : List ℕ) (r : Bool) → i < n → e ≡ entry_at t i → s ≡ name_of e → r ≡ same_bytes s x → r ≡ false → i + 1 + place_of x (names_from t (i + 1) (n - (i + 1))) ≡ w
+  pub not_there : (s : List ℕ) (r : Bool) → i < n → s ≡ name_of (entry_at t i) → r ≡ same_bytes s x → r ≡ false → i + 1 + place_of x (names_from t (i + 1) (n - (i + 1))) ≡ w
   unfolding place_of
-  not_there e s r h p q u g =
-      let y : same_bytes (name_of (entry_at t i)) x ≡ false = rw (← p, ← q) (sym u ∙ g) in
+  not_there s r h q u g =
+      let y : same_bytes (name_of (entry_at t i)) x ≡ false = rw (← q) (sym u ∙ g) in
       let z : place_of x (names_from t i (n - i)) ≡ suc (place_of x (names_from t (i + 1) (n - (i + 1)))) = rw (names_step t n i h, y) in
       omega arith
 
-  pub nowhere : n ≤ i → i ≡ w
+  pub nowhere : i ≤ n → n ≤ i → n ≡ w
   unfolding place_of
-  nowhere h =
+  nowhere g h =
       let z : place_of x (names_from t i (n - i)) ≡ 0 = rw (names_end t n i h) in
       omega arith
 

@@ -89,11 +89,11 @@ module _ (t : List ℕ) (n i : ℕ) (h : i < n) where
     pub no_print : (r : Bool) → r ≡ any_below i alike → r ≡ false → true ≡ non (known name earlier)
     no_print r u g = sym (non_f _ (→no (known name earlier) (λ y. against (sym u ∙ g) (print_there y))))
 
-  pub by_place : (e s : List ℕ) (p : ℕ) → e ≡ entry_at t i → s ≡ name_of e → p ≡ place_of (kept false s) earlier → leb i p ≡ non (known name earlier)
-  by_place e s p a b c = elim (dec_lt p i) [
+  pub by_place : (s : List ℕ) (p : ℕ) → s ≡ name → p ≡ place_of (kept false s) earlier → leb i p ≡ non (known name earlier)
+  by_place s p b c = elim (dec_lt p i) [
     | yes k ↦ lt-leb i p k ∙ sym (non_t _ (is_known ∙ lt-ltb p i k))
     | no k ↦ le-leb i p (omega arith) ∙ sym (non_f _ (is_known ∙ le-ltb p i (omega arith)))
   ]
     where
       is_known : known name earlier ≡ ltb p i
-      is_known = known_place name earlier ∙ rw (names_length t 0 i, c, kept_plain s, b, a)
+      is_known = known_place name earlier ∙ rw (names_length t 0 i, c, kept_plain s, b)

@@ -7,7 +7,7 @@ use Prim.Native.Nat.{ℕ, ◌-◌, ◌≤◌, ◌<◌}
 use lib.Dec.{eqb, leb}
 use lib.ListN.{length, take, drop}
 use borrow.Author.Tests.{eq-eqb, ne_eqb, eqb-true, le-leb, lt-leb, leb-true}
-use Rattle.lists.specs.Tests.{◌and◌, Yes}
+use Rattle.lists.specs.Tests.{◌and◌, Yes, No}
 use Rattle.lists.specs.Below.{all_below}
 use Rattle.lists.proofs.Tests.{and_l, and_r, and_i}
 use Rattle.names.specs.Bytes.{none_twice}
@@ -17,17 +17,17 @@ use Rattle.names.proofs.Entries.{to_end, short_names_lem}
 
 -- ---- the checks, each after those before it passed
 module _ (f : Bool) (t : List ℕ) where
-  pub other_size : (length t ≡ table_size → ⊥) → false ≡ right_table f t
+  pub other_size : (length t ≡ table_size → ⊥) → No (right_table f t)
   unfolding right_table ◌and◌
   other_size h = rw (ne_eqb (length t) table_size h)
 
   module _ (l : length t ≡ table_size) (n : ℕ) (q : n ≡ count_of t) where
-    pub over_count : most < n → false ≡ right_table f t
+    pub over_count : most < n → No (right_table f t)
     unfolding right_table ◌and◌
     over_count h = rw (eq-eqb (length t) table_size l, ← q, lt-leb n most h)
 
     module _ (h : n ≤ most) (r : Bool) (u : r ≡ all_below n (λ i. right_entry f (entry_at t i))) where
-      pub entry_wrong : r ≡ false → false ≡ right_table f t
+      pub entry_wrong : r ≡ false → No (right_table f t)
       unfolding right_table ◌and◌
       entry_wrong g = rw (eq-eqb (length t) table_size l, ← q, le-leb n most h, ← u, g)
 
@@ -35,13 +35,13 @@ module _ (f : Bool) (t : List ℕ) where
       entries_short g = short_names_lem f t n (sym u ∙ g)
 
       module _ (g : r ≡ true) (z : Bool) (v : z ≡ zeros (take (length t - entry_start n) (drop (entry_start n) t))) where
-        pub past_used : z ≡ false → false ≡ right_table f t
+        pub past_used : z ≡ false → No (right_table f t)
         unfolding right_table ◌and◌
         past_used p = rw (eq-eqb (length t) table_size l, ← q, le-leb n most h, ← u, g, ← (to_end t (entry_start n)), ← v, p)
 
-        pub if_once : (w : Bool) → z ≡ true → w ≡ none_twice (names_from t 0 n) → w ≡ right_table f t
+        pub if_once : (w : Bool) → z ≡ true → w ≡ none_twice (names_from t 0 n) → right_table f t ≡ w
         unfolding right_table names_of ◌and◌
-        if_once w p e = rw (eq-eqb (length t) table_size l, ← q, le-leb n most h, ← u, g, ← (to_end t (entry_start n)), ← v, p) e
+        if_once w p e = rw (eq-eqb (length t) table_size l, ← q, le-leb n most h, ← u, g, ← (to_end t (entry_start n)), ← v, p) (sym e)
 
 -- ---- a right table
 module _ (f : Bool) (t : List ℕ) where

@@ -14,15 +14,17 @@ use Rattle.lists.specs.Below.{all_below}
 use Rattle.lists.proofs.Lists.{all→}
 use Rattle.lists.proofs.Places.{mem_at}
 use Rattle.lists.proofs.Tests.{non_yes, or_l, or_r, cond_both}
+use Rattle.std.specs.Prelude.{Result, Ok, Err, Option, Some}
+use Rattle.names.specs.declared.TableRefusal.{TableRefusal}
+use Rattle.names.specs.declared.TableRefusal.TheVariants as table
+use Rattle.names.specs.declared.NameRefusal.{NameRefusal}
+use Rattle.names.specs.declared.NameRefusal.TheVariants.{BadTable, NameTooLong, NamesFull}
 use Rattle.names.specs.declared.Named.{Named}
-use Rattle.names.specs.declared.Named.TheVariants.{BadTable, NameTooLong, NamesFull, Known, Learned}
-use Rattle.names.specs.declared.Counted.{Counted}
-use Rattle.names.specs.declared.Counted.TheVariants.{BadTable as Spoiled, Names}
-use Rattle.names.specs.declared.NameAt.{NameAt}
-use Rattle.names.specs.declared.NameAt.TheVariants.{Found}
+use Rattle.names.specs.declared.Named.TheVariants.{Known, Learned}
+use Rattle.names.specs.declared.Place.{Place}
 use Rattle.names.specs.Bytes.{is_upper, fold1, keep1, kept, known, place_of, none_twice}
 use Rattle.names.specs.Table.{longest, most, entry_size, table_size, count_of, entry_start, entry_at, length_of, name_of, names_from, names_of, zeros, right_table, learned}
-use Rattle.names.specs.Answers.{count_in, values_count, Done, done, number_of, paper_of, values_of, is_new, place_at, name_at}
+use Rattle.names.specs.Answers.{count_in, values_count, Done, done, number_of, paper_of, values_of, is_new, place, place_at, name_at}
 use Rattle.names.proofs.Bytes.{→same, kept_length, kept_folded}
 use Rattle.names.proofs.Lists.{non_no, known_last, place_kept, place_last, at_place, names_count, place_below, names_at}
 use Rattle.names.proofs.Entries.{short_at}
@@ -32,11 +34,11 @@ use Rattle.names.proofs.Learning.{zeros_drop, learned_size, learned_count, learn
 -- ---- the five answers, and what led to each
 module _ (f : Bool) (t name : List ℕ) where
   pub answers : (P : Done → Type 0)
-      → (No (right_table f t) → P (done BadTable t))
-      → (Yes (right_table f t) → longest < length name → P (done NameTooLong t))
-      → (Yes (right_table f t) → length name ≤ longest → Yes (known (kept f name) (names_of t)) → P (done (Known (place_of (kept f name) (names_of t))) t))
-      → (Yes (right_table f t) → length name ≤ longest → No (known (kept f name) (names_of t)) → most ≤ count_of t → P (done NamesFull t))
-      → (Yes (right_table f t) → length name ≤ longest → No (known (kept f name) (names_of t)) → count_of t < most → P (done (Learned (count_of t)) (learned t (kept f name))))
+      → (No (right_table f t) → P (done (Err BadTable) t))
+      → (Yes (right_table f t) → longest < length name → P (done (Err NameTooLong) t))
+      → (Yes (right_table f t) → length name ≤ longest → Yes (known (kept f name) (names_of t)) → P (done (Ok (Known (place_of (kept f name) (names_of t)))) t))
+      → (Yes (right_table f t) → length name ≤ longest → No (known (kept f name) (names_of t)) → most ≤ count_of t → P (done (Err NamesFull) t))
+      → (Yes (right_table f t) → length name ≤ longest → No (known (kept f name) (names_of t)) → count_of t < most → P (done (Ok (Learned (count_of t))) (learned t (kept f name))))
       → P (number_of f t name)
   unfolding number_of
   answers P a b c d e =
@@ -47,12 +49,12 @@ module _ (f : Bool) (t name : List ℕ) where
       (λ r. e (non_no (right_table f t) y) (ltb-false longest (length name) h) k (leb-false most (count_of t) r)))))
 
   -- a known name's number, in a full table too
-  pub knows : Yes (right_table f t) → length name ≤ longest → Yes (known (kept f name) (names_of t)) → number_of f t name ≡ done (Known (place_of (kept f name) (names_of t))) t
+  pub knows : Yes (right_table f t) → length name ≤ longest → Yes (known (kept f name) (names_of t)) → number_of f t name ≡ done (Ok (Known (place_of (kept f name) (names_of t)))) t
   unfolding number_of non
   knows y h k = rw (y, le-ltb longest (length name) h, k)
 
   -- a new name that is short enough is learned while there is room, and only refused for want of it
-  pub learns : Yes (right_table f t) → length name ≤ longest → No (known (kept f name) (names_of t)) → count_of t < most → number_of f t name ≡ done (Learned (count_of t)) (learned t (kept f name))
+  pub learns : Yes (right_table f t) → length name ≤ longest → No (known (kept f name) (names_of t)) → count_of t < most → number_of f t name ≡ done (Ok (Learned (count_of t))) (learned t (kept f name))
   unfolding number_of non
   learns y h k r = rw (y, le-ltb longest (length name) h, k, lt-leb most (count_of t) r)
 
@@ -73,11 +75,11 @@ module _ (f : Bool) (t name : List ℕ) where
 
   -- ---- a new name changes only the count and the next entry
   pub new_changes : is_new (number_of f t name).told ≡ true
-      → ((number_of f t name).told ≡ Learned (count_of t)) × (length (number_of f t name).table ≡ length t) × (count_of (number_of f t name).table ≡ count_of t + 1)
+      → ((number_of f t name).told ≡ Ok (Learned (count_of t))) × (length (number_of f t name).table ≡ length t) × (count_of (number_of f t name).table ≡ count_of t + 1)
       × ((i : ℕ) → i < count_of t → entry_at (number_of f t name).table i ≡ entry_at t i) × ((i : ℕ) → count_of t < i → entry_at (number_of f t name).table i ≡ entry_at t i)
   new_changes =
       answers
-      (λ d. is_new d.told ≡ true → (d.told ≡ Learned (count_of t)) × (length d.table ≡ length t) × (count_of d.table ≡ count_of t + 1) × ((i : ℕ) → i < count_of t → entry_at d.table i ≡ entry_at t i) × ((i : ℕ) → count_of t < i → entry_at d.table i ≡ entry_at t i))
+      (λ d. is_new d.told ≡ true → (d.told ≡ Ok (Learned (count_of t))) × (length d.table ≡ length t) × (count_of d.table ≡ count_of t + 1) × ((i : ℕ) → i < count_of t → entry_at d.table i ≡ entry_at t i) × ((i : ℕ) → count_of t < i → entry_at d.table i ≡ entry_at t i))
       (λ n e. absurd (false≢true e))
       (λ y h e. absurd (false≢true e))
       (λ y h k e. absurd (false≢true e))
@@ -131,11 +133,11 @@ module _ (f : Bool) (t name : List ℕ) where
   below_256 k e = let p = placed k e in (omega (arith, place_below after (kept f name) p.there, p.number), right_count f after p.right)
 
   -- ---- a name that has a number gets it again, in any case of its letters where the table folds
-  pub asked_again : (x : List ℕ) (k : ℕ) → kept f x ≡ kept f name → values_of (number_of f t name).told ≡ k ∷ [] → number_of f after x ≡ done (Known k) after
+  pub asked_again : (x : List ℕ) (k : ℕ) → kept f x ≡ kept f name → values_of (number_of f t name).told ≡ k ∷ [] → number_of f after x ≡ done (Ok (Known k)) after
   asked_again x k q e =
       let p = placed k e in
       let h : length x ≤ longest = omega (arith, p.fits, kept_length f x, kept_length f name, ap length q) in
-      knows f after x p.right h (rw q p.there) ∙ ap (λ (j : ℕ). done (Known j) after) (rw q p.number)
+      knows f after x p.right h (rw q p.there) ∙ ap (λ (j : ℕ). done (Ok (Known j)) after) (rw q p.number)
 
   -- ---- the number's name is the name, as the table keeps it
   pub read_back : (k : ℕ) → values_of (number_of f t name).told ≡ k ∷ [] → name_at f after k ≡ kept f name
@@ -145,14 +147,14 @@ module _ (f : Bool) (t name : List ℕ) where
 
 -- ---- every earlier name keeps its number, and every earlier number its name
 module _ (f : Bool) (t name : List ℕ) where
-  pub number_kept : (x : List ℕ) (k : ℕ) → number_of f t x ≡ done (Known k) t → number_of f (after f t name) x ≡ done (Known k) (after f t name)
-  number_kept x k e = answers f t name (λ d. number_of f d.table x ≡ done (Known k) d.table) (λ n. e) (λ y h. e) (λ y h w. e) (λ y h w r. e) (λ y h w r.
+  pub number_kept : (x : List ℕ) (k : ℕ) → number_of f t x ≡ done (Ok (Known k)) t → number_of f (after f t name) x ≡ done (Ok (Known k)) (after f t name)
+  number_kept x k e = answers f t name (λ d. number_of f d.table x ≡ done (Ok (Known k)) d.table) (λ n. e) (λ y h. e) (λ y h w. e) (λ y h w r. e) (λ y h w r.
       let v : values_of (number_of f t x).told ≡ k ∷ [] = ap (λ (d : Done). values_of d.told) e in
       let p : Placed f x k t = subst (λ (u : List ℕ). Placed f x k u) (ap (λ (d : Done). d.table) e) (placed f t x k v) in
       let names = learned_names f t (kept f name) y r (short f t name h) in
       knows f (learned t (kept f name)) x (learned_right f t (kept f name) y r (short f t name h) (kept_folded f name) w) p.fits
       (rw (names, known_last (kept f x) (kept f name) (names_of t)) (or_l (known (kept f x) (names_of t)) _ p.there))
-      ∙ ap (λ (j : ℕ). done (Known j) (learned t (kept f name))) (rw (names, place_kept (kept f x) (kept f name) (names_of t) p.there) p.number))
+      ∙ ap (λ (j : ℕ). done (Ok (Known j)) (learned t (kept f name))) (rw (names, place_kept (kept f x) (kept f name) (names_of t) p.there) p.number))
 
   pub name_kept : (k : ℕ) → k < count_of t → name_at f (after f t name) k ≡ name_at f t k
   name_kept k g = answers f t name (λ d. name_at f d.table k ≡ name_at f t k) (λ n. refl) (λ y h. refl) (λ y h w. refl) (λ y h w r. refl) (λ y h w r.
@@ -161,44 +163,44 @@ module _ (f : Bool) (t name : List ℕ) where
       ∙ ap name_of (entry_before f t (kept f name) y r (short f t name h) k g) ∙ sym (entry_name f t k y g))
 
 -- ---- names of one number are one name, as the table keeps it
-pub one_name : (f : Bool) (t x y : List ℕ) (k : ℕ) → number_of f t x ≡ done (Known k) t → number_of f t y ≡ done (Known k) t → kept f x ≡ kept f y
+pub one_name : (f : Bool) (t x y : List ℕ) (k : ℕ) → number_of f t x ≡ done (Ok (Known k)) t → number_of f t y ≡ done (Ok (Known k)) t → kept f x ≡ kept f y
 one_name f t x y k e g = sym (back x e) ∙ back y g
   where
-    back : (z : List ℕ) → number_of f t z ≡ done (Known k) t → name_at f t k ≡ kept f z
+    back : (z : List ℕ) → number_of f t z ≡ done (Ok (Known k)) t → name_at f t k ≡ kept f z
     back z q = subst (λ (d : Done). name_at f d.table k ≡ kept f z) q (read_back f t z k (ap (λ (d : Done). values_of d.told) q))
 
 -- ---- the number, the values and whether the name is new say the whole answer
-from_paper : ℕ → List ℕ → Bool → Named
-from_paper p [] n = cond (eqb p 27) BadTable (cond (eqb p 22) NameTooLong NamesFull)
-from_paper p (k ∷ ks) true = Learned k
-from_paper p (k ∷ ks) false = Known k
+from_paper : ℕ → List ℕ → Bool → Result Named NameRefusal
+from_paper p [] n = Err (cond (eqb p 27) BadTable (cond (eqb p 22) NameTooLong NamesFull))
+from_paper p (k ∷ ks) true = Ok (Learned k)
+from_paper p (k ∷ ks) false = Ok (Known k)
 
-back_again : (a : Named) → from_paper (paper_of a) (values_of a) (is_new a) ≡ a
+back_again : (a : Result Named NameRefusal) → from_paper (paper_of a) (values_of a) (is_new a) ≡ a
 unfolding from_paper
-back_again BadTable = refl
-back_again NameTooLong = refl
-back_again NamesFull = refl
-back_again (Known k) = refl
-back_again (Learned k) = refl
+back_again (Err BadTable) = refl
+back_again (Err NameTooLong) = refl
+back_again (Err NamesFull) = refl
+back_again (Ok (Known k)) = refl
+back_again (Ok (Learned k)) = refl
 
-pub paper_whole : (a b : Named) → paper_of a ≡ paper_of b → values_of a ≡ values_of b → is_new a ≡ is_new b → a ≡ b
+pub paper_whole : (a b : Result Named NameRefusal) → paper_of a ≡ paper_of b → values_of a ≡ values_of b → is_new a ≡ is_new b → a ≡ b
 paper_whole a b p v n = sym (back_again a) ∙ rw (p, v, n) (back_again b)
 
 -- ---- the count of a right table is the number of its names, and its number and values say the whole answer
-pub how_many : (f : Bool) (t : List ℕ) → Yes (right_table f t) → count_in f t ≡ Names (length (names_of t))
+pub how_many : (f : Bool) (t : List ℕ) → Yes (right_table f t) → count_in f t ≡ Ok (length (names_of t))
 unfolding count_in non
 how_many f t y = rw (y, names_count t)
 
-from_count : List ℕ → Counted
-from_count [] = Spoiled
-from_count (n ∷ ns) = Names n
+from_count : List ℕ → Result ℕ TableRefusal
+from_count [] = Err table.BadTable
+from_count (n ∷ ns) = Ok n
 
-count_again : (a : Counted) → from_count (values_count a) ≡ a
+count_again : (a : Result ℕ TableRefusal) → from_count (values_count a) ≡ a
 unfolding from_count
-count_again Spoiled = refl
-count_again (Names n) = refl
+count_again (Err table.BadTable) = refl
+count_again (Ok n) = refl
 
-pub count_whole : (a b : Counted) → values_count a ≡ values_count b → a ≡ b
+pub count_whole : (a b : Result ℕ TableRefusal) → values_count a ≡ values_count b → a ≡ b
 count_whole a b e = sym (count_again a) ∙ ap from_count e ∙ count_again b
 
 -- ---- a name in another case of its letters is answered alike, the first time too
@@ -218,13 +220,14 @@ part_of t i h =
     ap (take n) (skip_length (drop (entry_start i) t)) ∙ take-take n longest (drop 1 (drop (entry_start i) t)) h ∙ ap (take n) (drop-drop 1 (entry_start i) t)
 
 module _ (f : Bool) (t : List ℕ) (i s l : ℕ) where
-  abbrev Told : NameAt → Type 0
-  Told d = d ≡ Found s l → (s + l ≤ length t) × (name_at f t i ≡ take l (drop s t))
+  abbrev Told : Result (Option Place) TableRefusal → Type 0
+  Told d = d ≡ Ok (Some (place s l)) → (s + l ≤ length t) × (name_at f t i ≡ take l (drop s t))
 
-  there_it_is : Yes (right_table f t) → i < count_of t → Told (Found (entry_start i + 1) (length_of (entry_at t i)))
+  there_it_is : Yes (right_table f t) → i < count_of t → Told (Ok (Some (place (entry_start i + 1) (length_of (entry_at t i)))))
   there_it_is y h e =
-      let p : entry_start i + 1 ≡ s = cc in
-      let q : length_of (entry_at t i) ≡ l = cc in
+      let e : place (entry_start i + 1) (length_of (entry_at t i)) ≡ place s l = cc in
+      let p : entry_start i + 1 ≡ s = ap (λ (x : Place). x.start) e in
+      let q : length_of (entry_at t i) ≡ l = ap (λ (x : Place). x.len) e in
       let w = short_at t (entry_at t i) (count_of t) i (right_short f t y) h refl in
       (omega (arith, right_size f t y, right_count f t y), entry_name f t i y h ∙ part_of t i w ∙ rw (p, q))
 

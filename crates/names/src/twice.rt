@@ -1,13 +1,14 @@
 // No name twice, by fingerprints: names are compared byte by byte only where two fingerprints are equal.
 // SPDX-License-Identifier: Apache-2.0
-ghost use Rattle.std.specs.Prelude.{◌≡◌, true, ◌≤◌, ◌<◌, eqb, length, get_or};
+ghost use Rattle.std.specs.Prelude.{◌≡◌, ◌<◌, eqb, get_or};
 ghost use Rattle.lists.specs.Tests.{non};
 ghost use Rattle.lists.specs.Below.{any_below};
 ghost use Rattle.names.specs.Bytes.{known, none_twice};
-ghost use Rattle.names.specs.Table.{most, table_size, entry_at, name_of, names_from};
-ghost use Rattle.names.specs.Code.{short_names, print_of, prints_of};
+ghost use Rattle.names.specs.Table.{most, entry_at, name_of, names_from};
+ghost use Rattle.names.specs.Code.{print_of, prints_of};
 
 use crate::MOST;
+use crate::judged::Names;
 
 // FNV's two numbers, and how many fingerprints there are.
 const BASIS: u64 = 2166136261;
@@ -22,24 +23,19 @@ fn fingerprint(name: &[u8]) -> u32
     ensures { result ≡ print_of name.now }
 {
     let mut h = BASIS;
-    let mut i = 0;
-    while i < name.len() {
-        h = (h * PRIME + (name[i] as u64)) % WRAP;
-        i += 1;
+    for b in name {
+        h = (h * PRIME + (*b as u64)) % WRAP;
     }
     h as u32
 }
 
 // Each name's, worked out once a test and not once a pair.
-fn fingerprints(table: &[u8], n: usize) -> [u32; MOST]
-    requires { (length table.now ≡ table_size) × (n ≤ most) × (short_names n table.now ≡ true) }
-    ensures { result ≡ prints_of n table.now }
+fn fingerprints(names: &Names) -> [u32; MOST]
+    ensures { result ≡ prints_of names.now.count names.now.table.now }
 {
     let mut prints = [0u32; MOST];
-    let mut i = 0;
-    while i < n {
-        prints[i] = fingerprint(crate::name_of(crate::entry_of(table, i)));
-        i += 1;
+    for i in 0..names.count {
+        prints[i] = fingerprint(names.name(i));
     }
     prints
 }
@@ -51,37 +47,32 @@ fn print_before(prints: &[u32; MOST], i: usize) -> bool
 {
     let print = prints[i];
     let mut before = false;
-    let mut j = 0;
-    while j < i {
-        before = before | (prints[j] == print);
-        j += 1;
+    for earlier in &prints[..i] {
+        before = before | (*earlier == print);
     }
     before
 }
 
 // Whether the i-th name is none of those before it: a new fingerprint settles it, else the names are compared.
-fn is_new(table: &[u8], prints: &[u32; MOST], i: usize, n: usize) -> bool
-    requires { (length table.now ≡ table_size) × (i < n) × (n ≤ most) × (short_names n table.now ≡ true) × (prints.now ≡ prints_of n table.now) }
-    ensures { result ≡ non (known (name_of (entry_at table.now i)) (names_from table.now 0 i)) }
+fn is_new(names: &Names, prints: &[u32; MOST], i: usize) -> bool
+    requires { (i < names.now.count) × (prints.now ≡ prints_of names.now.count names.now.table.now) }
+    ensures { result ≡ non (known (name_of (entry_at names.now.table.now i)) (names_from names.now.table.now 0 i)) }
 {
     if !print_before(prints, i) {
         return true;
     }
-    i <= crate::place_of(table, crate::name_of(crate::entry_of(table, i)), false, i)
+    i <= names.before(i).place_of(names.name(i), false)
 }
 
 // Each name against those before it. Stored names are compared as they are.
-pub(crate) fn none_twice(table: &[u8], n: usize) -> bool
-    requires { (length table.now ≡ table_size) × (n ≤ most) × (short_names n table.now ≡ true) }
-    ensures { result ≡ none_twice (names_from table.now 0 n) }
+pub(crate) fn none_twice(names: &Names) -> bool
+    ensures { result ≡ none_twice (names_from names.now.table.now 0 names.now.count) }
 {
-    let prints = fingerprints(table, n);
-    let mut i = 0;
-    while i < n {
-        if !is_new(table, &prints, i, n) {
+    let prints = fingerprints(names);
+    for i in 0..names.count {
+        if !is_new(names, &prints, i) {
             return false;
         }
-        i += 1;
     }
     true
 }

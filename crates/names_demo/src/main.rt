@@ -2,7 +2,7 @@
 // SPDX-License-Identifier: Apache-2.0
 #![tactic(auto)]
 
-use names::Named;
+use names::{NameRefusal, Named};
 use std::io;
 
 fn label(rt: &impl Print, what: &str, n: u64) -> io::Result<()> {
@@ -36,24 +36,21 @@ fn unit(i: usize, other: bool) -> [u8; 7] {
 // How many of the first `count` units a call answers with their own number, as new or as known.
 fn ask(table: &mut [u8], count: usize, other: bool, new: bool) -> u64 {
     let mut good = 0;
-    let mut i = 0;
-    while i < count {
+    for i in 0..count {
         let n = unit(i, other);
         let told = names::number_of(table, &n, true);
-        let own = right(told, i, new);
-        i += 1;
-        if own {
+        if right(told, i, new) {
             good += 1;
         }
     }
     good
 }
 
-fn right(told: Named, i: usize, new: bool) -> bool {
+fn right(told: Result<Named, NameRefusal>, i: usize, new: bool) -> bool {
     match told {
-        Named::Known(k) => !new & (k as usize == i),
-        Named::Learned(k) => new & (k as usize == i),
-        _ => false,
+        Ok(Named::Known(k)) => !new & (k as usize == i),
+        Ok(Named::Learned(k)) => new & (k as usize == i),
+        Err(_) => false,
     }
 }
 
@@ -68,9 +65,9 @@ fn say(
     let told = names::number_of(table, name, folding);
     label(rt, what, names::paper(told) as u64)?;
     match told {
-        Named::Known(k) => label(rt, "  known", k as u64),
-        Named::Learned(k) => label(rt, "  new", k as u64),
-        _ => Ok(()),
+        Ok(Named::Known(k)) => label(rt, "  known", k as u64),
+        Ok(Named::Learned(k)) => label(rt, "  new", k as u64),
+        Err(_) => Ok(()),
     }
 }
 

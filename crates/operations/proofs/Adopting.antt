@@ -1,53 +1,66 @@
 -- Locks that a vehicle lock takes in: the marked ones are those that a test picks; the state with them as its children.
 -- Assumes nothing.
 use mathlib.Core.Path.{◌≡◌, refl, sym, ap, ◌∙◌}
-use mathlib.Core.Bool.{Bool, true, false, cond}
+use mathlib.Core.Bool.{Bool, true}
 use mathlib.Core.List.{List, [], ◌∷◌, ◌++◌, map}
-use Prim.Native.Nat.{ℕ, ◌-◌, ◌<◌}
+use Prim.Native.Nat.{ℕ, zero, suc, ◌+◌, ◌-◌, ◌≤◌, ◌<◌}
+use native.Mathlib.Numerals.{add-one}
 use native.Mathlib.Omega.{arith}
-use lib.ListN.{length, take, replicate, length-map}
-use Rattle.lists.specs.Lists.{filter}
+use lib.Dec.{eqb}
+use lib.ListN.{length, get_or, set, take, drop, replicate, length-map}
+use lib.Seq.{drop-append_seam}
 use Rattle.lists.specs.Places.{in_places}
 use Rattle.state.specs.declared.ActiveLock.{ActiveLock}
 use Rattle.state.specs.declared.LockState.{LockState}
 use Rattle.state.specs.Locks.{blank_active}
 use Rattle.state.specs.Model.{Model, model_of, state_of, full, Tidy}
 use Rattle.state.proofs.Laws.{active_count, defunct_count, defunct_in_lem, model-of-state, tidy_of}
-use Rattle.operations.specs.Answers.{is_done, first_refusal}
+use Rattle.std.specs.Prelude.{Ok, Err}
+use Rattle.operations.specs.declared.answers.Refusal.TheVariants.{NoRoom}
+use Rattle.operations.specs.Answers.{is_done, refuse_if}
 use Rattle.operations.specs.Trees.{is_listed}
-use Rattle.operations.specs.Checks.{check_child, last_revision}
+use Rattle.operations.specs.Checks.{check_room, last_revision}
 use Rattle.operations.specs.Insert.{inserted_in}
-use Rattle.operations.specs.Vehicle.{nest, adopt, adopting, vehicle_in, judge_vehicle}
+use Rattle.operations.specs.Vehicle.{adopt, adopting, vehicle_in, judge_vehicle}
 use Rattle.rules.specs.Rules.{rule9}
-use Rattle.operations.specs.Code.{Placed, Ready, flagged, altered}
-use Rattle.operations.proofs.Flags.{marked_filter, marks_front, alter_front}
+use Rattle.operations.specs.Code.{Placed, Ready}
 use Rattle.operations.proofs.Going.{placed_count}
 use Rattle.operations.proofs.Chains.{first_done, rest_done, revision_left}
-use Rattle.operations.proofs.Inserting.{room_left, defunct_room}
+use Rattle.operations.proofs.Inserting.{room_judged, room_left, defunct_room}
+
+-- ---- a list changed place by place: what stands before place i is mapped
+module _ {A : Type 0} (f : A → A) (d : A) where
+  abbrev pub mapped_to : ℕ → List A → List A
+  mapped_to i s = map f (take i s) ++ drop i s
+
+  pub map_read : (s : List A) (i : ℕ) → get_or (mapped_to i s) i d ≡ get_or s i d
+  map_read [] zero = refl
+  map_read [] (suc i) = refl
+  map_read (x ∷ xs) zero = refl
+  map_read (x ∷ xs) (suc i) = map_read xs i
+
+  pub map_step : (s : List A) (i : ℕ) → i < length s → (v : A) → v ≡ f (get_or s i d) → set (mapped_to i s) i v ≡ mapped_to (suc i) s
+  map_step [] i h v e = absurd (omega arith)
+  map_step (x ∷ xs) zero h v e = ap (λ (y : A). y ∷ xs) e
+  map_step (x ∷ xs) (suc i) h v e = ap (λ (l : List A). f x ∷ l) (map_step xs i (omega arith) v e)
+
+-- the locks are changed within the first places of their array
+pub taken : (f : ActiveLock → ActiveLock) (l : List ActiveLock) (n : ℕ) → Placed l n → (b : List ActiveLock) → b ≡ map f (take n l) → b ++ drop n l ≡ in_places 64 blank_active (map f (take n l))
+taken f l n h b e =
+    let blanks : List ActiveLock = replicate (64 - length (take n l)) blank_active in
+    let rest : drop n l ≡ blanks = ap (drop n) (sym h.same) ∙ ap (λ (k : ℕ). drop k (take n l ++ blanks)) (sym (placed_count l n h)) ∙ drop-append_seam (take n l) blanks in
+    ap (λ (q : List ActiveLock). q ++ drop n l) e
+    ∙ ap (λ (q : List ActiveLock). map f (take n l) ++ q) rest
+    ∙ ap (λ (k : ℕ). map f (take n l) ++ replicate (64 - k) blank_active) (sym (length-map (take n l) f))
+
+-- one place more, where y is what the lock there becomes
+pub place_changed : (f : ActiveLock → ActiveLock) (s l : List ActiveLock) (i : ℕ) → i < length s → l ≡ mapped_to f blank_active i s → (y : ActiveLock) → y ≡ f (get_or l i blank_active) → set l i y ≡ mapped_to f blank_active (i + 1) s
+place_changed f s l i h e y g =
+    ap (λ (k : List ActiveLock). set k i y) e
+    ∙ map_step f blank_active s i h y (g ∙ ap f (ap (λ (q : List ActiveLock). get_or q i blank_active) e ∙ map_read f blank_active s i))
+    ∙ ap (λ (k : ℕ). mapped_to f blank_active k s) (sym (add-one i))
 
 module _ (p : ActiveLock → Bool) (x : ActiveLock) where
-  -- ---- the first that is refused
-  module _ (l : List ActiveLock) (n : ℕ) (takes : List Bool) (e : takes ≡ in_places 64 false (map p l)) (h : length l ≡ n) where
-    pub children_are : first_refusal (check_child x) (flagged (take n takes) l) ≡ first_refusal (check_child x) (filter p l)
-    children_are =
-        ap (λ (fs : List Bool). first_refusal (check_child x) (flagged fs l)) (marks_front n 64 p l takes e h)
-        ∙ ap (first_refusal (check_child x)) (marked_filter p l)
-
-  -- ---- the marked ones are taken in
-  alter_map : (l : List ActiveLock) → altered (nest x) (map p l) l ≡ map (adopt p x) l
-  unfolding adopt
-  alter_map [] = refl
-  alter_map (a ∷ rs) = ap (λ (t : List ActiveLock). cond (p a) (nest x a) a ∷ t) (alter_map rs)
-
-  module _ (l : List ActiveLock) (n : ℕ) (h : Placed l n) (takes : List Bool) (e : takes ≡ in_places 64 false (map p (take n l))) where
-    pub taken : altered (nest x) (take n takes) l ≡ in_places 64 blank_active (map (adopt p x) (take n l))
-    taken =
-        ap (λ (fs : List Bool). altered (nest x) fs l) (marks_front n 64 p (take n l) takes e (placed_count l n h))
-        ∙ ap (altered (nest x) (map p (take n l))) (sym h.same)
-        ∙ alter_front (nest x) (map p (take n l)) (take n l) (replicate (64 - length (take n l)) blank_active) (length-map (take n l) p)
-        ∙ ap (λ (s : List ActiveLock). s ++ replicate (64 - length (take n l)) blank_active) (alter_map (take n l))
-        ∙ ap (λ (k : ℕ). map (adopt p x) (take n l) ++ replicate (64 - k) blank_active) (sym (length-map (take n l) (adopt p x)))
-
   -- ---- the state with its children
   module _ (s : LockState) (h : Ready s) (b : List ActiveLock) (e : b ≡ in_places 64 blank_active (map (adopt p x) (model_of s).active)) where
     abbrev pub with_active : LockState
@@ -75,6 +88,11 @@ module _ (p : ActiveLock → Bool) (x : ActiveLock) where
 
     pub adopting_inserted : (n : LockState) → n ≡ state_of (inserted_in (model_of with_active) x) → n ≡ state_of (inserted_in (adopting p x (model_of s)) x)
     adopting_inserted n f = f ∙ ap (λ (m : Model). state_of (inserted_in m x)) adopting_model
+
+-- ---- 13
+pub room_vehicle : (m : Model) (x : ActiveLock) (ws : List ℕ) (n : ℕ) → length m.active ≡ n → n ≤ 64 → length m.defunct ≤ 128 → refuse_if (eqb n 64) (Err NoRoom) (Ok tt) ≡ check_room full (vehicle_in m x ws)
+unfolding vehicle_in
+room_vehicle m x ws n e h g = room_judged (adopting (is_listed ws) x m) x n (length-map m.active (adopt (is_listed ws) x) ∙ e) h g
 
 -- ---- insert_vehicle: what the judgement leaves
 module _ (s : LockState) (k : Tidy s) (x : ActiveLock) (ws : List ℕ) (t : is_done (judge_vehicle full (model_of s) x ws) ≡ true) where

@@ -13,8 +13,8 @@ use Rattle.lists.proofs.Tests.{cond_true, cond_false}
 use Rattle.lists.proofs.Loops.{rest_step}
 use Rattle.state.specs.declared.ActiveLock.{ActiveLock}
 use Rattle.state.specs.Locks.{blank_active}
-use Rattle.operations.specs.declared.answers.Answer.{Answer}
-use Rattle.operations.specs.declared.answers.Answer.TheVariants.{Done}
+use Rattle.std.specs.Prelude.{Result, Ok, ⊤}
+use Rattle.operations.specs.declared.answers.Refusal.{Refusal}
 use Rattle.operations.specs.Answers.{is_done, and_then, first_refusal}
 use Rattle.operations.specs.Vehicle.{nest, adopt}
 use Rattle.operations.specs.Code.{Placed}
@@ -22,7 +22,7 @@ use Rattle.operations.proofs.Going.{placed_count}
 use Rattle.operations.proofs.Flags.{mapped, mapped_read, mapped_set, mapped_same, mapped_front}
 
 -- ---- a loop over a list, of which what the test picks is checked
-module _ {A : Type 0} (c : A → Answer) (p : A → Bool) where
+module _ {A : Type 0} (c : A → Result ⊤ Refusal) (p : A → Bool) where
   module _ (l : List A) (n i : ℕ) (d : A) (h : i < n) (w : n ≤ length l) where
     pub picked_refused : p (get_or l i d) ≡ true → is_done (c (get_or l i d)) ≡ false → first_refusal c (filter p (slice i n l)) ≡ c (get_or l i d)
     unfolding and_then
@@ -35,7 +35,7 @@ module _ {A : Type 0} (c : A → Answer) (p : A → Bool) where
     pub picked_not : p (get_or l i d) ≡ false → first_refusal c (filter p (slice i n l)) ≡ first_refusal c (filter p (slice (i + 1) n l))
     picked_not t = rw (rest_step l n i d h w, t)
 
-  pub picked_none : (l : List A) (n i : ℕ) → i ≤ n → n ≤ i → first_refusal c (filter p (slice i n l)) ≡ Done
+  pub picked_none : (l : List A) (n i : ℕ) → i ≤ n → n ≤ i → first_refusal c (filter p (slice i n l)) ≡ Ok tt
   picked_none l n i h k = let e : i ≡ n = omega arith in rw (e, slice_empty n l)
 
 -- ---- one turn of the loop that takes in

@@ -2,42 +2,49 @@
 -- them, and takes over the last one's target and holder: where no walk meets an id twice, that is what the removals one
 -- after the other leave of it.
 -- Assumes nothing.
-use mathlib.Core.Bool.{Bool, true, false, cond}
+use mathlib.Core.Bool.{Bool, true, false, cond, not}
 use mathlib.Core.List.Memᴰ
 use mathlib.Core.List.{List, [], ◌∷◌, ◌++◌, map}
 use mathlib.Core.Logic.{inl, inr}
-use mathlib.Core.Option.{Option, none, some, none-ne-some, some-injective}
+use Rattle.std.specs.Prelude.{Option, None, Some}
+use Rattle.lists.proofs.Options.{None_ne_Some, Some_injective}
 use mathlib.Core.Path.{◌≡◌, refl, sym, ap, ◌∙◌, subst}
 use Prim.Native.Nat.{ℕ, zero, suc, ◌+◌, ◌-◌, ◌≤◌, ◌<◌}
 use native.Mathlib.Omega.{arith}
 use native.Mathlib.Decide.{ℕ_discrete}
-use lib.Dec.{eqb}
+use lib.Dec.{eqb, leb, ltb}
+use Rattle.std.proofs.lemmas.Bool.{cases_lt}
 use lib.ListN.{length, get_or, take, length-map}
 use lib.Seq.{ext_get_or, take-suc, take-length, length-take-le}
 use borrow.Author.Tests.{eqb-true, eq-eqb, ne_eqb, lt-ltb, le-ltb}
-use Rattle.lists.specs.Tests.{Yes}
-use Rattle.lists.specs.Lists.{Mem, ascending}
+use Rattle.std.specs.Prelude.{position}
+use Rattle.std.specs.List.{position_or_len}
+use Rattle.std.specs.Option.{unwrap_or}
+use Rattle.lists.specs.Tests.{◌and◌, Yes}
+use Rattle.lists.specs.Lists.{Mem, from, ascending}
 use Rattle.lists.proofs.Tests.{against, non_yes}
 use Rattle.lists.proofs.Lists.{find→, →any, find_none→, find_miss, find_cases, find_key}
-use Rattle.lists.proofs.Places.{mem_at, at_mem, ascending_yes}
+use Rattle.lists.proofs.Places.{mem_at}
 use Rattle.ids.specs.declared.LockId.{LockId}
 use Rattle.ids.specs.Order.{key}
 use Rattle.state.specs.declared.DefunctLock.{DefunctLock}
 use Rattle.state.specs.declared.Lock.{Lock}
 use Rattle.state.specs.Locks.{dkey, blank_defunct}
+use Rattle.rules.specs.Code.{keyed}
 use Rattle.rules.specs.Rules.{find_d, has_d, Meets, here, on, NoRing, rule9}
-use Rattle.rules.specs.Code.{id_at, key_at, Sought, Sorted, Entries}
 use Rattle.rules.proofs.Ends.{Ends, done, step, leaves, leaves_all, ends_anywhere}
 use Rattle.rules.proofs.Meeting.{ring_free}
 use Rattle.operations.specs.Defuncts.{redirect, remove_all}
-use Rattle.operations.specs.Code.{flagged, unflagged, took_over, hand_step, hand_on, entry_at, last_from, handed_on, landed, Rows, Led}
+use Rattle.operations.specs.Code.{flagged, unflagged, took_over, hand_step, hand_on, entry_at, last_from, handed_on, landed, Led, left_by, gone_key}
+use Rattle.operations.specs.declared.defuncts.Gone.{Gone}
+use Rattle.operations.proofs.Putting.{place_or_end}
 use Rattle.operations.proofs.Flags.{flag_yes, flag_no}
 use Rattle.operations.proofs.Leaving.{redirect_yes, redirect_no, hand_long, hand_all}
 
 -- ---- the walk of an entry through the list of those that go: what it is at the end
 data Walk (gone : List DefunctLock) : DefunctLock → DefunctLock → Type 0 where
-  stop : {d : DefunctLock} → find_d gone (key d.target) ≡ none → Walk gone d d
-  turn : {d e r : DefunctLock} → find_d gone (key d.target) ≡ some e → Walk gone (took_over e d) r → Walk gone d r
+  stop : {d : DefunctLock} → find_d gone (key d.target) ≡ None → Walk gone d d
+  turn : {d e r : DefunctLock} → find_d gone (key d.target) ≡ Some e → Walk gone (took_over e d) r → Walk gone d r
 
 walk_lock : {gone : List DefunctLock} {d r : DefunctLock} → Walk gone d r → r.lock ≡ d.lock
 walk_lock (stop e) = refl
@@ -45,31 +52,31 @@ walk_lock (turn e w) = walk_lock w
 
 -- ---- one more goes
 module _ (x : DefunctLock) where
-  found_more : (gone : List DefunctLock) (k : ℕ) {e : DefunctLock} → find_d gone k ≡ some e → find_d (gone ++ (x ∷ [])) k ≡ some e
-  found_more [] k {e} f = absurd (none-ne-some e f)
+  found_more : (gone : List DefunctLock) (k : ℕ) {e : DefunctLock} → find_d gone k ≡ Some e → find_d (gone ++ (x ∷ [])) k ≡ Some e
+  found_more [] k {e} f = absurd (None_ne_Some e f)
   found_more (y ∷ ys) k {e} f = go (eqb (dkey y) k) f (λ q. found_more ys k q)
     where
-      go : (b : Bool) → cond b (some y) (find_d ys k) ≡ some e → (find_d ys k ≡ some e → find_d (ys ++ (x ∷ [])) k ≡ some e) → cond b (some y) (find_d (ys ++ (x ∷ [])) k) ≡ some e
+      go : (b : Bool) → cond b (Some y) (find_d ys k) ≡ Some e → (find_d ys k ≡ Some e → find_d (ys ++ (x ∷ [])) k ≡ Some e) → cond b (Some y) (find_d (ys ++ (x ∷ [])) k) ≡ Some e
       go true q ih = q
       go false q ih = ih q
 
   -- not among the others: it is the new one, or none
-  found_last : (gone : List DefunctLock) (k : ℕ) → find_d gone k ≡ none → find_d (gone ++ (x ∷ [])) k ≡ find_d (x ∷ []) k
+  found_last : (gone : List DefunctLock) (k : ℕ) → find_d gone k ≡ None → find_d (gone ++ (x ∷ [])) k ≡ find_d (x ∷ []) k
   found_last [] k f = refl
   found_last (y ∷ ys) k f = go (eqb (dkey y) k) f (λ q. found_last ys k q)
     where
-      go : (b : Bool) → cond b (some y) (find_d ys k) ≡ none → (find_d ys k ≡ none → find_d (ys ++ (x ∷ [])) k ≡ find_d (x ∷ []) k) → cond b (some y) (find_d (ys ++ (x ∷ [])) k) ≡ find_d (x ∷ []) k
-      go true q ih = absurd (none-ne-some y (sym q))
+      go : (b : Bool) → cond b (Some y) (find_d ys k) ≡ None → (find_d ys k ≡ None → find_d (ys ++ (x ∷ [])) k ≡ find_d (x ∷ []) k) → cond b (Some y) (find_d (ys ++ (x ∷ [])) k) ≡ find_d (x ∷ []) k
+      go true q ih = absurd (None_ne_Some y (sym q))
       go false q ih = ih q
 
   module _ (gone : List DefunctLock) where
     abbrev more : List DefunctLock
     more = gone ++ (x ∷ [])
 
-    found_new : (k : ℕ) → find_d gone k ≡ none → k ≡ dkey x → find_d more k ≡ some x
+    found_new : (k : ℕ) → find_d gone k ≡ None → k ≡ dkey x → find_d more k ≡ Some x
     found_new k f q = found_last gone k f ∙ rw (eq-eqb (dkey x) k (sym q))
 
-    found_none : (k : ℕ) → find_d gone k ≡ none → (k ≡ dkey x → ⊥) → find_d more k ≡ none
+    found_none : (k : ℕ) → find_d gone k ≡ None → (k ≡ dkey x → ⊥) → find_d more k ≡ None
     found_none k f q = found_last gone k f ∙ rw (ne_eqb (dkey x) k (λ e. q (sym e)))
 
     -- a walk that ends elsewhere is as it was
@@ -89,18 +96,18 @@ module _ (x : DefunctLock) where
 
 -- ---- those that go are entries of the list
 module _ (l : List DefunctLock) (t : Yes (ascending dkey l)) (gone : List DefunctLock) (part : (d : DefunctLock) → Mem d gone → Mem d l) where
-  found_in : (k : ℕ) {e : DefunctLock} → find_d gone k ≡ some e → find_d l k ≡ some e
+  found_in : (k : ℕ) {e : DefunctLock} → find_d gone k ≡ Some e → find_d l k ≡ Some e
   found_in k {e} f = let w = find→ (λ d. eqb (dkey d) k) gone f in find_key dkey l t k (part e w.0) (eqb-true (dkey e) k w.1)
 
   -- a walk that ends at an entry meets its id
-  walk_meets : {d r x : DefunctLock} → Walk gone d r → find_d l (key r.target) ≡ some x → (ks : List ℕ) × Meets l (key d.target) ks × Mem (key r.target) ks
+  walk_meets : {d r x : DefunctLock} → Walk gone d r → find_d l (key r.target) ≡ Some x → (ks : List ℕ) × Meets l (key d.target) ks × Mem (key r.target) ks
   walk_meets (stop {d = d} e) f = (key d.target ∷ [], on f here, Memᴰ.head refl)
   walk_meets (turn {d = d} e w) f = let v = walk_meets w f in (key d.target ∷ v.0, on (found_in (key d.target) e) v.1, Memᴰ.tail v.2)
 
   -- so it doesn't come back to where it began
   no_return : NoRing (record { revision = 0; active = []; defunct = l }) → {x y : DefunctLock} → Mem x l → Walk gone x y → key y.target ≡ dkey x → ⊥
   no_return ring {x} {y} m w q =
-      let f : find_d l (dkey x) ≡ some x = find_key dkey l t (dkey x) m refl in
+      let f : find_d l (dkey x) ≡ Some x = find_key dkey l t (dkey x) m refl in
       let v = walk_meets w (ap (find_d l) q ∙ f) in
       (ring x m (dkey x ∷ v.0) (on f v.1)).0 (subst (λ (k : ℕ). Mem k v.0) q v.2)
 
@@ -108,7 +115,7 @@ module _ (l : List DefunctLock) (t : Yes (ascending dkey l)) (gone : List Defunc
   ends_part : {k : ℕ} → Ends l k → Ends gone k
   ends_part {k} (done f) = done (find_miss (λ d. eqb (dkey d) k) gone (λ d m u. find_none→ (λ d. eqb (dkey d) k) l f (part d m) u))
   ends_part {k} (step {d = d} f r) = elim (find_cases (λ d. eqb (dkey d) k) gone) [
-    | inl w ↦ step w.1 (subst (λ (x : DefunctLock). Ends gone (key x.target)) (some-injective d w.0 (sym f ∙ found_in k w.1)) (ends_part r))
+    | inl w ↦ step w.1 (subst (λ (x : DefunctLock). Ends gone (key x.target)) (Some_injective d w.0 (sym f ∙ found_in k w.1)) (ends_part r))
     | inr e ↦ done e
   ]
 
@@ -120,11 +127,11 @@ turned (suc n) (stop e) h last s q = rw e q
 turned {gone} zero (turn {d = d} e w) h last s q =
     let f = find→ (λ x. eqb (dkey x) (key d.target)) gone e in
     absurd (against (non_yes (has_d gone (key d.target)) h) (→any (λ x. eqb (dkey x) (key d.target)) f.0 f.1))
-turned {gone} (suc n) (turn {d = d} {e = e} f w) h last s q = rw f (turned n w (rw (f, leaves) at h) (some e) s (ap (took_over e) q ∙ over last))
+turned {gone} (suc n) (turn {d = d} {e = e} f w) h last s q = rw f (turned n w (rw (f, leaves) at h) (Some e) s (ap (took_over e) q ∙ over last))
   where
     over : (o : Option DefunctLock) → took_over e (handed_on o s) ≡ took_over e s
-    over none = refl
-    over (some x) = refl
+    over None = refl
+    over (Some x) = refl
 
 -- ---- the marks up to place i
 flagged_part : {A : Type 0} (fs : List Bool) (l : List A) {a : A} → Mem a (flagged fs l) → Mem a l
@@ -133,6 +140,30 @@ flagged_part (b ∷ bs) [] m = absurd (Memᴰ.not-nil m)
 flagged_part (true ∷ bs) (x ∷ xs) (Memᴰ.head e) = Memᴰ.head e
 flagged_part (true ∷ bs) (x ∷ xs) (Memᴰ.tail m) = Memᴰ.tail (flagged_part bs xs m)
 flagged_part (false ∷ bs) (x ∷ xs) m = Memᴰ.tail (flagged_part bs xs m)
+
+at_of : {A B : Type 0} (f : A → B) (l : List A) (j : ℕ) (e : B) (d : A) → j < length l → get_or (map f l) j e ≡ f (get_or l j d)
+at_of f [] j e d k = absurd (omega arith)
+at_of f (x ∷ xs) zero e d k = refl
+at_of f (x ∷ xs) (suc j) e d k = at_of f xs j e d (omega arith)
+
+lt_suc : (a b : ℕ) → ltb (suc a) (suc b) ≡ ltb a b
+lt_suc a b = elim (cases_lt a b) [
+  | inl u ↦ lt-ltb (suc a) (suc b) (omega arith) ∙ sym (lt-ltb a b u)
+  | inr u ↦ le-ltb (suc a) (suc b) (omega arith) ∙ sym (le-ltb a b u)
+]
+
+-- the place of a key, and the entry there
+same_place : (k : ℕ) (l : List DefunctLock) → position_or_len (keyed gone_key k) (map left_by l) ≡ position_or_len (keyed dkey k) l
+same_place k [] = refl
+same_place k (d ∷ ds) = ap (λ (n : ℕ). cond (not (eqb (dkey d) k)) (1 + n) 0) (same_place k ds)
+
+entry_found : (k : ℕ) (l : List DefunctLock) → entry_at l (position_or_len (keyed dkey k) l) ≡ find_d l k
+entry_found k [] = refl
+entry_found k (d ∷ ds) = go (eqb (dkey d) k) (entry_found k ds)
+  where
+    go : (b : Bool) → entry_at ds (position_or_len (keyed dkey k) ds) ≡ find_d ds k → entry_at (d ∷ ds) (cond (not b) (1 + position_or_len (keyed dkey k) ds) 0) ≡ cond b (Some d) (find_d ds k)
+    go true q = rw (lt-ltb 0 (suc (length ds)) (omega arith))
+    go false q = let e : 1 + position_or_len (keyed dkey k) ds ≡ suc (position_or_len (keyed dkey k) ds) = omega arith in rw (e, lt_suc (position_or_len (keyed dkey k) ds) (length ds)) q
 
 pub at_map : {A : Type 0} (f : A → A) (l : List A) (j : ℕ) (d : A) → j < length l → get_or (map f l) j d ≡ f (get_or l j d)
 at_map f [] j d k = absurd (omega arith)
@@ -178,7 +209,7 @@ module _ (goes : List Bool) (l : List DefunctLock) (t : Yes (ascending dkey l)) 
   unfolding landed
   landed_all h = ext_get_or blank_defunct (hand_on goes (length l) l) (map (landed gone) l) (hand_long goes l (length l) ∙ sym (length-map l (landed gone))) (λ j k.
       let g : j < length l = omega (arith, hand_long goes l (length l)) in
-      turned (length gone) (walked (length l) (omega arith) h j g) (leaves_all gone (ends_part l t gone (λ d m. flagged_part (take (length l) goes) l m) (ends_anywhere _ nine (key (get_or l j blank_defunct).target)))) none (get_or l j blank_defunct) refl
+      turned (length gone) (walked (length l) (omega arith) h j g) (leaves_all gone (ends_part l t gone (λ d m. flagged_part (take (length l) goes) l m) (ends_anywhere _ nine (key (get_or l j blank_defunct).target)))) None (get_or l j blank_defunct) refl
       ∙ sym (at_map (landed gone) l j blank_defunct g))
 
   -- what is left once the marked entries are gone
@@ -187,14 +218,14 @@ module _ (goes : List Bool) (l : List DefunctLock) (t : Yes (ascending dkey l)) 
 
 -- ---- the same by places in columns of those that go
 module _ (gone : List DefunctLock) (n : ℕ) (long : length gone ≡ n) where
-  here_at : (r : ℕ) → r < n → entry_at gone r ≡ some (get_or gone r blank_defunct)
+  here_at : (r : ℕ) → r < n → entry_at gone r ≡ Some (get_or gone r blank_defunct)
   here_at r h = rw (lt-ltb r (length gone) (omega arith))
 
-  pub past_end : (r : ℕ) → n ≤ r → entry_at gone r ≡ none
+  pub past_end : (r : ℕ) → n ≤ r → entry_at gone r ≡ None
   past_end r h = rw (le-ltb r (length gone) (omega arith))
 
 module _ (gone : List DefunctLock) (n : ℕ) (next : List ℕ) (c : Led gone n next) where
-  pub walk_starts : (first : ℕ) → last_from n gone (entry_at gone first) (entry_at gone n) ≡ last_from n gone (entry_at gone first) none
+  pub walk_starts : (first : ℕ) → last_from n gone (entry_at gone first) (entry_at gone n) ≡ last_from n gone (entry_at gone first) None
   walk_starts first = rw (past_end gone n c.long n (omega arith))
 
   pub walk_turns : (i at last : ℕ) → i < n → at < n → last_from (n - (i + 1)) gone (entry_at gone (get_or next at 0)) (entry_at gone at) ≡ last_from (n - i) gone (entry_at gone at) (entry_at gone last)
@@ -212,30 +243,50 @@ module _ (gone : List DefunctLock) (n : ℕ) (next : List ℕ) (c : Led gone n n
   unfolding last_from
   walk_spent i at last h = let e : n - i ≡ 0 = omega arith in rw e
 
-module _ (gone : List DefunctLock) (n : ℕ) (ids targets : List ℕ) (c : Entries gone n ids targets) (s : Sorted (key_at ids) n) where
-  in_order_lem : Yes (ascending dkey gone)
-  in_order_lem = rw take-length at (ascending_yes dkey gone (length gone) blank_defunct (omega arith) (λ j h.
-      rw (← ap key (c.at_gone j (omega (arith, c.long))), ← ap key (c.at_gone (j + 1) (omega (arith, c.long)))) (s j (j + 1) (omega arith) (omega (arith, c.long)))))
+-- ---- what those that go leave
+module _ (l : List DefunctLock) where
+  left_long : length (map left_by l) ≡ length l
+  left_long = length-map l left_by
 
-  pub found_at : (k r : ℕ) → Sought (key_at ids) n k r → entry_at gone r ≡ find_d gone k
-  found_at k r (inl w) = here_at gone n c.long r w.0 ∙ sym (find_key dkey gone in_order_lem k (mem_at gone r blank_defunct (omega (arith, c.long, w.0))) (sym (ap key (c.at_gone r w.0)) ∙ w.1))
-  found_at k r (inr w) = past_end gone n c.long r (omega (arith, w.0)) ∙ sym (find_miss (λ d. eqb (dkey d) k) gone (λ d m u.
-      let p = at_mem blank_defunct m in
-      let h : p.0 < n = omega (arith, c.long, p.1) in
-      w.1 p.0 h (ap key (c.at_gone p.0 h) ∙ ap dkey p.2 ∙ eqb-true (dkey d) k u)))
+  pub left_at : (i : ℕ) (g : Gone) → i < length l → get_or (map left_by l) i g ≡ left_by (get_or l i blank_defunct)
+  left_at i g h = at_of left_by l i g blank_defunct h
 
-  pub led_of : (next : List ℕ) → ((i : ℕ) → i < n → Sought (key_at ids) n (key_at targets i) (get_or next i 0)) → Led gone n next
-  led_of next f = record { long = c.long; at_next = λ i h. found_at (key_at targets i) (get_or next i 0) (f i h) ∙ ap (λ (x : LockId). find_d gone (key x)) (c.at_target i h) }
+  -- the place of an id among them, as it is found, and the entry there
+  pub found_place : (k r : ℕ) (o : Option ℕ) → o ≡ position (keyed gone_key k) (map left_by l) → r ≡ unwrap_or o (length (map left_by l)) → entry_at l r ≡ find_d l k
+  found_place k r o e f =
+      ap (entry_at l) (f ∙ ap (λ (x : Option ℕ). unwrap_or x (length (map left_by l))) e ∙ place_or_end (keyed gone_key k) (map left_by l) ∙ same_place k l) ∙ entry_found k l
 
-module _ (gone : List DefunctLock) (n : ℕ) (ids targets holders : List ℕ) (c : Rows gone n ids targets holders) (d : DefunctLock) (k : ℕ)
-    (e : entry_at gone k ≡ last_from n gone (find_d gone (key d.target)) none) where
+left_order : (b : ℕ) (l : List DefunctLock) → from gone_key b (map left_by l) ≡ from dkey b l
+left_order b [] = refl
+left_order b (d ∷ ds) = ap (λ (t : Bool). leb b (dkey d) and t) (left_order (suc (dkey d)) ds)
+
+pub left_ascend : (l : List DefunctLock) → Yes (ascending dkey l) → ascending gone_key (map left_by l) ≡ true
+left_ascend l t = left_order 0 l ∙ t
+
+module _ (l : List DefunctLock) (gone : List Gone) (e : gone ≡ map left_by l) where
+  pub gone_count : length gone ≡ length l
+  gone_count = ap length e ∙ length-map l left_by
+
+  pub gone_at : (i : ℕ) (g : Gone) → i < length gone → get_or gone i g ≡ left_by (get_or l i blank_defunct)
+  gone_at i g h = ap (λ (m : List Gone). get_or m i g) e ∙ left_at l i g (omega (arith, gone_count))
+
+  -- an id among them, as it is looked for
+  pub sought : Yes (ascending dkey l) → (k : ℕ) (o : Option ℕ) → (ascending gone_key gone ≡ true → o ≡ position (keyed gone_key k) gone) → (r : ℕ) → r ≡ unwrap_or o (length gone) → entry_at l r ≡ find_d l k
+  sought t k o f r q = found_place l k r o (rw e at (f (rw e (left_ascend l t)))) (rw e at q)
+
+  -- where a walk ends that begins at the place of an id
+  pub walk_end : (next : List ℕ) → Led l (length l) next → (k first i : ℕ) → ((m : List DefunctLock) → Led m (length gone) next → entry_at m k ≡ last_from (length gone) m (entry_at m first) None) → entry_at l first ≡ find_d l i → entry_at l k ≡ last_from (length l) l (find_d l i) None
+  walk_end next c k first i f q =
+      subst (λ (n : ℕ). entry_at l k ≡ last_from n l (entry_at l first) None) gone_count (f l (subst (λ (n : ℕ). Led l n next) (sym gone_count) c))
+      ∙ ap (λ (x : Option DefunctLock). last_from (length l) l x None) q
+
+module _ (gone : List DefunctLock) (d : DefunctLock) (k : ℕ) (e : entry_at gone k ≡ last_from (length gone) gone (find_d gone (key d.target)) None) where
   last_is : (o : Option DefunctLock) → entry_at gone k ≡ o → handed_on o d ≡ landed gone d
   unfolding landed
-  last_is o f = ap (λ (x : Option DefunctLock). handed_on x d) (sym f ∙ e ∙ ap (λ (m : ℕ). last_from m gone (find_d gone (key d.target)) none) (sym c.entries.long))
+  last_is o f = ap (λ (x : Option DefunctLock). handed_on x d) (sym f ∙ e)
 
-  pub lands_here : n ≤ k → d ≡ landed gone d
-  lands_here h = last_is none (past_end gone n c.entries.long k h)
+  pub lands_here : length gone ≤ k → d ≡ landed gone d
+  lands_here h = last_is None (past_end gone (length gone) refl k h)
 
-  pub lands_there : k < n → (x : LockId) → x ≡ id_at targets k
-      → record { lock = d.lock; target = x; expires = d.expires; broken = d.broken; breaker = d.breaker; holder = get_or holders k 0 } ≡ landed gone d
-  lands_there h x f = rw (f, c.entries.at_target k h, c.at_holder k h) (last_is (some (get_or gone k blank_defunct)) (here_at gone n c.entries.long k h))
+  pub lands_there : k < length gone → (g : Gone) → g ≡ left_by (get_or gone k blank_defunct) → record { lock = d.lock; target = g.target; expires = d.expires; broken = d.broken; breaker = d.breaker; holder = g.holder } ≡ landed gone d
+  lands_there h g f = rw f (last_is (Some (get_or gone k blank_defunct)) (here_at gone (length gone) refl k h))

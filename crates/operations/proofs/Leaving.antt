@@ -3,7 +3,7 @@
 -- Assumes nothing.
 use mathlib.Core.Bool.{Bool, true, false, cond}
 use mathlib.Core.List.{List, [], ◌∷◌, ◌++◌, map}
-use mathlib.Core.Option.{Option, none, some}
+use Rattle.std.specs.Prelude.{Option, None, Some}
 use mathlib.Core.Path.{◌≡◌, refl, sym, ap, ◌∙◌}
 use Prim.Native.Nat.{ℕ, zero, suc, ◌+◌, ◌≤◌, ◌<◌}
 use native.Mathlib.Omega.{arith}
@@ -39,8 +39,8 @@ unfolding remove_d
 remove_le i t = go (find (has_id_d i) t)
   where
     go : (o : Option DefunctLock) → length (drop_found o t) ≤ length t
-    go none = omega arith
-    go (some e) = drop_le e t
+    go None = omega arith
+    go (Some e) = drop_le e t
 
 pub remove_all_le : (ds t : List DefunctLock) → length (remove_all ds t) ≤ length t
 remove_all_le [] t = omega arith
@@ -86,7 +86,7 @@ other_id : (e d : DefunctLock) → (dkey d ≡ dkey e → ⊥) → has_id_d e.lo
 unfolding has_id_d
 other_id e d n = ne_eqb (dkey d) (dkey e) n
 
-find_at : (fs : List Bool) (b : ℕ) (l : List DefunctLock) (d : DefunctLock) → Yes (from dkey b l) → length fs < length l → find (has_id_d (get_or l (length fs) d).lock.id) (unflagged fs l) ≡ some (get_or l (length fs) d)
+find_at : (fs : List Bool) (b : ℕ) (l : List DefunctLock) (d : DefunctLock) → Yes (from dkey b l) → length fs < length l → find (has_id_d (get_or l (length fs) d).lock.id) (unflagged fs l) ≡ Some (get_or l (length fs) d)
 find_at [] b [] d t h = absurd (omega arith)
 find_at [] b (x ∷ xs) d t h = rw (same_id_lem x)
 find_at (c ∷ cs) b [] d t h = absurd (omega arith)
@@ -224,8 +224,8 @@ module _ (t : Table) (h : Laid t) (p : DefunctLock → Bool) (goes : List Bool) 
 
 -- ---- one entry by its id
 abbrev list_of : Option DefunctLock → List DefunctLock
-list_of none = []
-list_of (some d) = d ∷ []
+list_of None = []
+list_of (Some d) = d ∷ []
 
 filter_one : (i : LockId) (b : ℕ) (l : List DefunctLock) → Yes (from dkey b l) → filter (has_id_d i) l ≡ list_of (find (has_id_d i) l)
 unfolding has_id_d
@@ -236,7 +236,7 @@ filter_one i b (x ∷ xs) t = go (eqb (dkey x) (key i)) refl (filter_one i (suc 
     none_after q = →no (any (has_id_d i) xs) (λ u. let w = any→ (has_id_d i) xs u in
         omega (arith, from→ dkey (suc (dkey x)) (rest dkey b x xs t) w.1, eqb-true (dkey w.0) (key i) w.2))
 
-    go : (c : Bool) → eqb (dkey x) (key i) ≡ c → filter (has_id_d i) xs ≡ list_of (find (has_id_d i) xs) → cond c (x ∷ filter (has_id_d i) xs) (filter (has_id_d i) xs) ≡ list_of (cond c (some x) (find (has_id_d i) xs))
+    go : (c : Bool) → eqb (dkey x) (key i) ≡ c → filter (has_id_d i) xs ≡ list_of (find (has_id_d i) xs) → cond c (x ∷ filter (has_id_d i) xs) (filter (has_id_d i) xs) ≡ list_of (cond c (Some x) (find (has_id_d i) xs))
     go true e ih = ap (λ (s : List DefunctLock). x ∷ s) (filter_none (has_id_d i) xs (none_after (eqb-true (dkey x) (key i) e)))
     go false e ih = ih
 
@@ -249,8 +249,8 @@ unfolding remove_d
 splice_all i l t = ap (λ (s : List DefunctLock). remove_all s l) (filter_one i 0 l t) ∙ go (find (has_id_d i) l) refl
   where
     go : (o : Option DefunctLock) → find (has_id_d i) l ≡ o → remove_all (list_of o) l ≡ drop_found o l
-    go none e = refl
-    go (some d) e = ap (λ (o : Option DefunctLock). drop_found o l) (find_agree (has_id_d d.lock.id) (has_id_d i) l (by_key i d (find→ (has_id_d i) l e).1) ∙ e)
+    go None e = refl
+    go (Some d) e = ap (λ (o : Option DefunctLock). drop_found o l) (find_agree (has_id_d d.lock.id) (has_id_d i) l (by_key i d (find→ (has_id_d i) l e).1) ∙ e)
 
 -- nothing to supersede
 pub supersede_none : (x : ActiveLock) (t : List DefunctLock) → any (superseded x) t ≡ false → supersede x t ≡ t

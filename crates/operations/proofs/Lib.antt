@@ -6,12 +6,11 @@ pub mod Going
 pub mod Leaving
 pub mod Landing
 pub mod Passing
+pub mod Putting
 pub mod Coming
 pub mod Chains
 pub mod Inserting
 pub mod Joining
-pub mod Finding
-pub mod Seeing
 pub mod Refusing
 pub mod Listing
 pub mod Adopting

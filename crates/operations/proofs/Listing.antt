@@ -1,124 +1,74 @@
 -- Ids of a list against the active locks: what the check of one id says, and the lowest that is refused.
 -- Assumes nothing.
-use mathlib.Core.Path.{◌≡◌, refl, sym, ap, ◌∙◌}
-use mathlib.Core.Bool.{Bool, true, false, not, ◌&&◌, ◌||◌}
+use mathlib.Core.Path.{◌≡◌, sym, ap, ◌∙◌}
+use mathlib.Core.Bool.{Bool, true, false, cond}
 use mathlib.Core.List.{List}
-use mathlib.Core.Option.{none, some}
-use Prim.Native.Nat.{ℕ, ◌+◌, ◌-◌, ◌≤◌, ◌<◌}
-use native.Mathlib.Omega.{arith}
-use lib.ListN.{length, get_or, take}
-use lib.Seq.{slice}
-use borrow.Author.Tests.{not-true, not-false}
-use Rattle.lists.specs.Tests.{◌and◌, ◌or◌, non}
-use Rattle.lists.specs.Lists.{any}
-use Rattle.lists.proofs.Tests.{by, codes, and_code, and_l, non_t, non_f}
-use Rattle.lists.proofs.Lists.{any→, →any}
-use Rattle.lists.proofs.Loops.{any_yes, any_no, any_end}
+use Rattle.std.specs.Prelude.{Option, None, Some}
+use Prim.Native.Nat.{ℕ, ◌+◌, ◌-◌, ◌<◌}
+use lib.ListN.{length, drop}
+use Rattle.lists.specs.Tests.{non}
+use Rattle.lists.specs.Lists.{any, filter}
+use Rattle.lists.proofs.Tests.{by, non_t, non_f}
 use Rattle.ids.specs.declared.LockId.{LockId}
-use Rattle.ids.specs.Order.{before_id}
-use Rattle.ids.specs.Words.{ascending_ids}
-use Rattle.ids.proofs.Words.{id_at, best_of, on_from, lowest_where, skip_id, keep_id, end_ids}
+use Rattle.ids.specs.Words.{ids_of, ascending_ids}
+use Rattle.ids.proofs.Words.{id_at, one_id, no_id_lem, lower, lowest_of, lowest_where}
 use Rattle.state.specs.declared.ActiveLock.{ActiveLock}
-use Rattle.state.specs.Locks.{is_vehicle, has_id}
-use Rattle.operations.specs.declared.answers.Answer.{Answer}
-use Rattle.operations.specs.declared.answers.Answer.TheVariants.{Done, ActiveLockNotFound, NotRootVehicle, BadChild}
-use Rattle.operations.specs.Answers.{is_done, and_then, first_refusal}
-use Rattle.operations.specs.Checks.{check_root, missing, check_active, settled_lock, check_free, check_listed}
-use Rattle.operations.specs.Code.{check_named}
+use Rattle.state.specs.Locks.{has_id}
+use Rattle.std.specs.Prelude.{Result, Ok, Err, ⊤}
+use Rattle.std.specs.Result.{is_err}
+use Rattle.operations.specs.declared.answers.Refusal.{Refusal}
+use Rattle.operations.specs.declared.answers.Refusal.TheVariants.{ActiveLockNotFound}
+use Rattle.operations.specs.Answers.{is_done, first_refusal}
+use Rattle.operations.specs.Checks.{missing, check_active}
+use Rattle.operations.specs.Code.{check_named, is_lower}
 use Rattle.operations.proofs.Chains.{refuse, go_on}
-use Rattle.operations.proofs.Refusing.{refuses, told_by, named_first}
-
--- ---- 11.1
-module _ (x : ActiveLock) (v : Bool) (e : v ≡ is_vehicle x.lock.scope) where
-  root_is : (not v || x.child) ≡ (non (is_vehicle x.lock.scope) or x.child)
-  root_is = rw e (simp codes)
-
-  pub root_yes : (not v || x.child) ≡ true → NotRootVehicle ≡ check_root x
-  unfolding check_root
-  root_yes t = sym (refuse _ _ _ (sym root_is ∙ t))
-
-  pub root_no : (not v || x.child) ≡ false → Done ≡ check_root x
-  unfolding check_root
-  root_no t = sym (go_on _ _ _ (sym root_is ∙ t))
+use Rattle.operations.proofs.Refusing.{refuses, told_by, err_is, named_first}
 
 -- ---- 3
 module _ (l : List ActiveLock) (i : LockId) (u : Bool) (e : u ≡ any (has_id i) l) where
-  pub active_yes : u ≡ true → Done ≡ check_active l i
+  pub active_yes : u ≡ true → (Ok tt) ≡ check_active l i
   unfolding check_active missing
   active_yes t = sym (go_on _ _ _ (non_t _ (sym e ∙ t)))
 
-  pub active_no : u ≡ false → ActiveLockNotFound i ≡ check_active l i
+  pub active_no : u ≡ false → (Err (ActiveLockNotFound i)) ≡ check_active l i
   unfolding check_active missing
   active_no t = sym (refuse _ _ _ (non_f _ (sym e ∙ t)))
 
--- ---- 3, 11.2: an id that is missing, or whose lock can't be a child
-module _ (i : LockId) where
-  abbrev pub stuck : ActiveLock → Bool
-  stuck a = has_id i a and settled_lock a
+-- ---- the lowest id that the test p picks, the lowest so far being o
+module _ (p : LockId → Bool) (ws : List ℕ) (o : Option LockId) (j : ℕ) where
+  abbrev pub goes_on : Option LockId
+  goes_on = lowest_of o (filter p (ids_of (drop j ws)))
 
-  module _ (l : List ActiveLock) where
-    stuck_there : any stuck l ≡ true → any (has_id i) l ≡ true
-    stuck_there t = let w = any→ stuck l t in →any (has_id i) w.1 (and_l _ _ w.2)
+  module _ (h : j + 1 < length ws) where
+    pub passed_id : p (id_at ws j) ≡ false → goes_on ≡ lowest_of o (filter p (ids_of (drop (j + 2) ws)))
+    passed_id e = rw (one_id ws j h, e)
 
-    is_bad : any stuck l ≡ true → BadChild i ≡ check_listed l i
-    unfolding check_listed check_free and_then is_done
-    is_bad t = sym (ap (λ (a : Answer). and_then a (check_free l i)) (sym (active_yes l i _ refl (stuck_there t))) ∙ refuse _ _ _ t)
+    picked : p (id_at ws j) ≡ true → goes_on ≡ lowest_of (lower o (id_at ws j)) (filter p (ids_of (drop (j + 2) ws)))
+    picked e = rw (one_id ws j h, e)
 
-    is_free : any (has_id i) l ≡ true → any stuck l ≡ false → Done ≡ check_listed l i
-    unfolding check_listed check_free and_then is_done
-    is_free t f = sym (ap (λ (a : Answer). and_then a (check_free l i)) (sym (active_yes l i _ refl t)) ∙ go_on _ _ _ f)
+    lower_is : (o : Option LockId) (b : Bool) → is_lower (id_at ws j) o ≡ b → lower o (id_at ws j) ≡ cond b (Some (id_at ws j)) o
+    unfolding is_lower
+    lower_is None b e = rw (← e)
+    lower_is (Some low) b e = rw (← e)
 
-    is_missing : any (has_id i) l ≡ false → ActiveLockNotFound i ≡ check_listed l i
-    unfolding check_listed and_then is_done
-    is_missing t = sym (ap (λ (a : Answer). and_then a (check_free l i)) (sym (active_no l i _ refl t)))
+    pub lower_id : p (id_at ws j) ≡ true → is_lower (id_at ws j) o ≡ true → goes_on ≡ lowest_of (Some (id_at ws j)) (filter p (ids_of (drop (j + 2) ws)))
+    lower_id e t = picked e ∙ ap (λ (z : Option LockId). lowest_of z (filter p (ids_of (drop (j + 2) ws)))) (lower_is o true t)
 
-  module _ (l : List ActiveLock) (n k : ℕ) (q : any stuck (slice k n l) ≡ any stuck (take n l)) where
-    module _ (d : ActiveLock) (g : k < n) (w : n ≤ length l) (h s : Bool) (e : h ≡ has_id i (get_or l k d)) (f : s ≡ settled_lock (get_or l k d)) where
-      here : (h && s) ≡ stuck (get_or l k d)
-      here = rw (e, f) (and_code (has_id i (get_or l k d)) (settled_lock (get_or l k d)))
-
-      pub listed_bad : (h && s) ≡ true → BadChild i ≡ check_listed (take n l) i
-      listed_bad t = is_bad (take n l) (sym q ∙ any_yes stuck l n k d g w (sym here ∙ t))
-
-      pub listed_next : (h && s) ≡ false → any stuck (slice (k + 1) n l) ≡ any stuck (take n l)
-      listed_next t = sym (any_no stuck l n k d g w (sym here ∙ t)) ∙ q
-
-    module _ (g : k ≤ n) (w : n ≤ k) (there : Bool) (e : there ≡ any (has_id i) (take k l)) where
-      known : there ≡ any (has_id i) (take n l)
-      known = let z : k ≡ n = omega arith in e ∙ ap (λ (m : ℕ). any (has_id i) (take m l)) z
-
-      pub listed_free : there ≡ true → Done ≡ check_listed (take n l) i
-      listed_free t = is_free (take n l) (sym known ∙ t) (sym q ∙ any_end stuck l n k g w)
-
-      pub listed_missing : there ≡ false → ActiveLockNotFound i ≡ check_listed (take n l) i
-      listed_missing t = is_missing (take n l) (sym known ∙ t)
-
--- ---- the lowest id that the test p picks
-module _ (p : LockId → Bool) (ws : List ℕ) (f : Bool) (b : LockId) (j : ℕ) where
-  module _ (h : j + 1 < length ws) (t : Bool) (q : t ≡ before_id (id_at ws j) b) where
     -- it is no lower
-    pub higher_id : (not f || t) ≡ false → on_from p ws f b j ≡ on_from p ws f b (j + 2)
-    higher_id g = by (p (id_at ws j)) (on_from p ws f b j ≡ on_from p ws f b (j + 2)) (λ e. keep_id p ws f b j h e t q g) (λ e. skip_id p ws f b j h e)
+    pub higher_id : is_lower (id_at ws j) o ≡ false → goes_on ≡ lowest_of o (filter p (ids_of (drop (j + 2) ws)))
+    higher_id t = by (p (id_at ws j)) (goes_on ≡ lowest_of o (filter p (ids_of (drop (j + 2) ws)))) (λ e. picked e ∙ ap (λ (z : Option LockId). lowest_of z (filter p (ids_of (drop (j + 2) ws)))) (lower_is o false t)) passed_id
 
-  module _ (h : length ws - j < 2) (e : on_from p ws f b j ≡ lowest_where p ws) where
-    pub lowest_none : f ≡ false → lowest_where p ws ≡ none
-    lowest_none t = sym (end_ids p ws f b j h e) ∙ ap (λ (g : Bool). best_of g b) t
-
-    pub lowest_some : f ≡ true → lowest_where p ws ≡ some b
-    lowest_some t = sym (end_ids p ws f b j h e) ∙ ap (λ (g : Bool). best_of g b) t
+  pub end_id : length ws - j < 2 → goes_on ≡ o
+  end_id h = ap (λ (l : List LockId). lowest_of o (filter p l)) (no_id_lem ws j h)
 
 -- ---- what is told of it
 module _ (child : Bool) (l : List ActiveLock) (ws : List ℕ) where
-  pub ids_none : lowest_where (refuses (check_named child l)) ws ≡ none → Done ≡ first_refusal (check_named child l) (ascending_ids ws)
+  pub ids_none : lowest_where (refuses (check_named child l)) ws ≡ None → (Ok tt) ≡ first_refusal (check_named child l) (ascending_ids ws)
   ids_none e = sym (named_first l child ws ∙ ap (told_by (check_named child l)) e)
 
-  pub ids_some : (b : LockId) (r : Answer) → lowest_where (refuses (check_named child l)) ws ≡ some b → r ≡ check_named child l b → r ≡ first_refusal (check_named child l) (ascending_ids ws)
+  pub ids_some : (b : LockId) (r : Result ⊤ Refusal) → lowest_where (refuses (check_named child l)) ws ≡ Some b → r ≡ check_named child l b → r ≡ first_refusal (check_named child l) (ascending_ids ws)
   ids_some b r e f = f ∙ sym (named_first l child ws ∙ ap (told_by (check_named child l)) e)
 
-  -- what the code's check of one id says
-  module _ (i : LockId) (a : Answer) (e : a ≡ check_named child l i) (d : Bool) (f : d ≡ is_done a) where
-    pub id_refused : not d ≡ true → refuses (check_named child l) i ≡ true
-    id_refused t = non_f _ (ap is_done (sym e) ∙ sym f ∙ not-true d t)
-
-    pub id_passed : not d ≡ false → refuses (check_named child l) i ≡ false
-    id_passed t = non_t _ (ap is_done (sym e) ∙ sym f ∙ not-false d t)
+-- what the code's check of one id says
+pub refused : (child : Bool) (l : List ActiveLock) (i : LockId) (a : Result ⊤ Refusal) {b : Bool} → a ≡ check_named child l i → is_err a ≡ b → refuses (check_named child l) i ≡ b
+refused child l i a e f = ap (λ (r : Result ⊤ Refusal). non (is_done r)) (sym e) ∙ sym (err_is a) ∙ f

@@ -1,210 +1,147 @@
--- The single pass over the defunct entries: those that go are read out into columns, those that stay are led on through
--- them and moved down, the places left over are blanked.
+-- The single pass over the defunct entries: those that go are read out, those that stay are led on through them and moved
+-- down, the places left over are blanked.
 -- Assumes nothing.
-use mathlib.Core.Bool.{Bool, true, false, true≢false}
-use mathlib.Core.List.{List, [], ◌∷◌, ◌++◌, map, append_assoc}
+use mathlib.Core.Bool.{Bool, true, false, cond}
+use mathlib.Core.List.{List, [], ◌∷◌, ◌++◌, map, append_assoc, append-nil}
 use mathlib.Core.Path.{◌≡◌, refl, sym, ap, ◌∙◌}
-use Prim.Native.Nat.{ℕ, zero, suc, ◌+◌, ◌*◌, ◌-◌, ◌≤◌, ◌<◌}
+use Prim.Native.Nat.{ℕ, ◌+◌, ◌-◌, ◌≤◌, ◌<◌}
 use native.Mathlib.Omega.{arith}
-use lib.Dec.{leb}
-use lib.ListN.{length, get_or, set, take, drop, replicate, length-set, length-append, length-replicate, length-map, get_or-append, replicate-append-replicate}
-use lib.Seq.{drop_at, take_at, get_or_at, take-length, drop-append-add, drop-drop, length-take-le}
-use borrow.Author.Tests.{leb-true}
-use Rattle.lists.specs.Tests.{Yes}
-use Rattle.lists.specs.Lists.{from, ascending}
-use Rattle.lists.specs.Places.{in_places}
-use Rattle.lists.proofs.Tests.{and_l, and_i}
-use Rattle.lists.proofs.Lists.{rest, from_weaken}
-use Rattle.lists.proofs.Loops.{more}
-use Rattle.lists.proofs.Places.{fill_more}
+use lib.ListN.{length, get_or, set, take, drop, replicate, length-append, length-map, length-take, length-drop, replicate-append-replicate}
+use lib.Seq.{take_at, drop_at, take-length}
+use Rattle.std.proofs.lemmas.List.{take_all, drop_all}
+use Rattle.lists.specs.Tests.{non, Yes}
+use Rattle.lists.specs.Lists.{filter, ascending}
+use Rattle.lists.specs.Places.{in_places, Holds}
+use Rattle.lists.proofs.Tests.{non_t, non_f}
+use Rattle.lists.proofs.Lists.{filter_le, from_filter}
+use Rattle.lists.proofs.Loops.{front, push, sift_yes, sift_no, filter_split}
 use Rattle.state.specs.declared.DefunctLock.{DefunctLock}
-use Rattle.state.specs.declared.LockState.{LockState}
 use Rattle.state.specs.Locks.{dkey, blank_defunct}
-use Rattle.state.specs.Model.{model_of, Tidy}
-use Rattle.state.proofs.Laws.{defunct_count, defunct_in_lem, length_places}
-use Rattle.rules.specs.Rules.{rule9}
-use Rattle.rules.specs.Code.{key_at, Sorted}
-use Rattle.rules.proofs.Fill.{Entered, entered_none, entered_more, sorted_law}
+use Rattle.ids.specs.Order.{no_id}
+use Rattle.operations.specs.declared.defuncts.Gone.{Gone}
 use Rattle.operations.specs.Defuncts.{remove_all}
-use Rattle.operations.specs.Code.{flagged, unflagged, Ready, landed, Rows, with_entries}
-use Rattle.operations.proofs.Over.{over, over_read, over_push, blanking_step}
-use Rattle.operations.proofs.Flags.{flag_yes, flag_no, sift_in, sift_out}
-use Rattle.operations.proofs.Landing.{at_map, landing}
+use Rattle.operations.specs.Code.{unflagged, landed, left_by, Settled, Ready, with_entries}
+use Rattle.state.specs.declared.LockState.{LockState}
+use Rattle.state.specs.Model.{model_of}
+use Rattle.state.proofs.Laws.{defunct_count, defunct_in_lem}
+use Rattle.rules.specs.Rules.{rule9}
+use Rattle.operations.proofs.Leaving.{remove_all_le}
+use Rattle.operations.proofs.Over.{over, over_read, over_push, over_long}
+use Rattle.operations.proofs.Flags.{marked_filter}
+use Rattle.operations.proofs.Landing.{landing}
 
--- ---- the columns of those that go, so far
-pub record Picked (gone : List DefunctLock) (g : ℕ) (ids targets holders : List ℕ) : Type 0 where
-  pub count : length gone ≡ g
-  pub entered : Entered gone g ids targets
-  pub holders_long : length holders ≡ 128
-  pub in_holders : (j : ℕ) → j < g → get_or holders j 0 ≡ (get_or gone j blank_defunct).holder
+abbrev pub nothing : Gone
+nothing = record { id = no_id; target = no_id; holder = 0 }
 
-pub picked_none : Picked [] 0 (replicate 256 0) (replicate 256 0) (replicate 128 0)
-picked_none = record { count = refl; entered = entered_none []; holders_long = length-replicate {A = ℕ} 128 0; in_holders = λ j h. absurd (omega arith) }
+unmarked : (p : DefunctLock → Bool) (f : DefunctLock → DefunctLock) (l : List DefunctLock) → unflagged (map p l) (map f l) ≡ map f (filter (λ d. non (p d)) l)
+unfolding non
+unmarked p f [] = refl
+unmarked p f (d ∷ ds) = go (p d) (unmarked p f ds)
+  where
+    go : (b : Bool) → unflagged (map p ds) (map f ds) ≡ map f (filter (λ d. non (p d)) ds) → cond b (unflagged (map p ds) (map f ds)) (f d ∷ unflagged (map p ds) (map f ds)) ≡ map f (cond (non b) (d ∷ filter (λ d. non (p d)) ds) (filter (λ d. non (p d)) ds))
+    go true e = e
+    go false e = ap (λ (t : List DefunctLock). f d ∷ t) e
 
-module _ (gone : List DefunctLock) (g : ℕ) (ids targets holders : List ℕ) (p : Picked gone g ids targets holders) where
-  module _ (x : DefunctLock) (h : g < 128) where
-    abbrev all : List DefunctLock
-    all = gone ++ (x ∷ [])
+module _ (p : DefunctLock → Bool) (l : List DefunctLock) where
+  -- of the first i entries those that stay, led on through all that go
+  abbrev pub staying : ℕ → List DefunctLock
+  staying i = map (landed (filter p l)) (filter (λ d. non (p d)) (take i l))
 
-    old : (j : ℕ) → j < g → get_or gone j blank_defunct ≡ get_or all j blank_defunct
-    old j k = sym (get_or-append gone (x ∷ []) blank_defunct j (omega (arith, p.count)))
+  staying_le : (i : ℕ) → length (staying i) ≤ i
+  staying_le i = omega (arith, length-map (filter (λ d. non (p d)) (take i l)) (landed (filter p l)), filter_le (λ d. non (p d)) (take i l), length-take i l)
 
-    new : get_or all g blank_defunct ≡ x
-    new = get_or_at gone x [] blank_defunct g p.count
+  module _ (i : ℕ) (h : i < length l) (out : List DefunctLock) (w : ℕ) (e : out ≡ over (staying i) l) (n : w ≡ length (staying i)) (b : Bool) (q : b ≡ p (get_or out i blank_defunct)) where
+    was : get_or out i blank_defunct ≡ get_or l i blank_defunct
+    was = ap (λ (o : List DefunctLock). get_or o i blank_defunct) e ∙ over_read (staying i) l i blank_defunct (staying_le i)
 
-    wider : Entered all g ids targets
-    wider = record {
-      gone_long = p.entered.gone_long;
-      targets_long = p.entered.targets_long;
-      in_gone = λ j k. p.entered.in_gone j k ∙ ap (λ (d : DefunctLock). d.lock.id) (old j k);
-      in_targets = λ j k. p.entered.in_targets j k ∙ ap (λ (d : DefunctLock). d.target) (old j k);
-    }
+    pub stay : b ≡ false → (x : DefunctLock) → x ≡ landed (filter p l) (get_or out i blank_defunct) → (set out w x ≡ over (staying (i + 1)) l) × (w + 1 ≡ length (staying (i + 1)))
+    stay t x f =
+        let more : staying (i + 1) ≡ staying i ++ (landed (filter p l) (get_or l i blank_defunct) ∷ []) = sift_yes (landed (filter p l)) (λ d. non (p d)) l i blank_defunct h (non_f _ (ap p (sym was) ∙ sym q ∙ t)) in (
+          ap (λ (o : List DefunctLock). set o w x) e ∙ over_push (staying i) l x blank_defunct w n (omega (arith, staying_le i))
+              ∙ ap (λ (y : DefunctLock). over (staying i ++ (y ∷ [])) l) (f ∙ ap (landed (filter p l)) was) ∙ ap (λ (s : List DefunctLock). over s l) (sym more),
+          omega (arith, ap length more, length-append (staying i) (landed (filter p l) (get_or l i blank_defunct) ∷ [])),
+        )
 
-    picked_more : Picked all (g + 1) (set (set ids (2 * g) x.lock.id.hi) (2 * g + 1) x.lock.id.lo) (set (set targets (2 * g) x.target.hi) (2 * g + 1) x.target.lo) (set holders g x.holder)
-    picked_more = record {
-      count = length-append gone (x ∷ []) ∙ ap (λ (k : ℕ). k + 1) p.count;
-      entered = rw new at (entered_more all g ids targets wider h);
-      holders_long = length-set holders g x.holder ∙ p.holders_long;
-      in_holders = fill_more (λ j. (get_or all j blank_defunct).holder) holders g x.holder 0 (omega (arith, p.holders_long)) (ap (λ (d : DefunctLock). d.holder) (sym new)) (λ j k. p.in_holders j k ∙ ap (λ (d : DefunctLock). d.holder) (old j k));
-    }
+    pub go_out : b ≡ true → (out ≡ over (staying (i + 1)) l) × (w ≡ length (staying (i + 1)))
+    go_out t =
+        let same : staying (i + 1) ≡ staying i = sift_no (landed (filter p l)) (λ d. non (p d)) l i blank_defunct h (non_t _ (ap p (sym was) ∙ sym q ∙ t)) in
+        (e ∙ ap (λ (s : List DefunctLock). over s l) (sym same), n ∙ ap length (sym same))
 
-  pub rows_of : Rows gone g ids targets holders
-  rows_of = record { entries = record { long = p.count; at_gone = p.entered.in_gone; at_target = p.entered.in_targets }; at_holder = p.in_holders }
+  module _ (t : Settled l) where
+    left_all : staying (length l) ≡ remove_all (filter p l) l
+    left_all =
+        let all : take (length l) (map p l) ≡ map p l = take_all (length l) (map p l) (omega (arith, length-map l p)) in
+        ap (λ (s : List DefunctLock). map (landed (filter p l)) (filter (λ d. non (p d)) s)) (take-length l)
+        ∙ sym (unmarked p (landed (filter p l)) l)
+        ∙ (rw (all, marked_filter p l) at (landing (map p l) l t.order t.free (omega (arith, length-map l p))))
 
-  pub sorted_of : Yes (ascending dkey gone) → Sorted (key_at ids) g
-  sorted_of t = sorted_law (λ (d : DefunctLock). d.lock.id) gone g blank_defunct ids (omega (arith, p.count)) p.entered.in_gone (ap (ascending dkey) (ap (λ (k : ℕ). take k gone) (sym p.count) ∙ take-length gone) ∙ t)
+    pub shed_done : (i : ℕ) → length l ≤ i → i ≤ length l → (out : List DefunctLock) (w : ℕ) → out ≡ over (staying i) l → w ≡ length (staying i)
+        → (m : List DefunctLock) (b : DefunctLock) → b ≡ blank_defunct → m ≡ replicate (length (take (length out - w) (drop w out))) b
+        → Holds (length l) blank_defunct (remove_all (filter p l) l) (take w out ++ (m ++ drop (length out - w) (drop w out))) w
+    shed_done i h g out w e n m b f q =
+        let z : i ≡ length l = omega arith in
+        let few : length (staying i) ≤ length l = omega (arith, staying_le i) in
+        let long : length out ≡ length l = over_long (staying i) l out (length l) e refl few in
+        let rest : drop (length out - w) (drop w out) ≡ [] = drop_all (length out - w) (drop w out) (omega (arith, length-drop w out)) in
+        let size : length (take (length out - w) (drop w out)) ≡ length l - length (staying i) = omega (arith, length-take (length out - w) (drop w out), length-drop w out) in
+        let all : staying i ≡ remove_all (filter p l) l = ap staying z ∙ left_all in (
+          (rw (rest, append-nil m, q, size, f) (ap (λ (s : List DefunctLock). take w s ++ replicate (length l - length (staying i)) blank_defunct) e ∙ ap (λ (s : List DefunctLock). s ++ replicate (length l - length (staying i)) blank_defunct) (take_at (staying i) (drop (length (staying i)) l) w (sym n))))
+              ∙ ap (in_places (length l) blank_defunct) all,
+          n ∙ ap length all,
+        )
 
--- ---- what is marked of an ascending list ascends
-flag_order : (fs : List Bool) (b : ℕ) (l : List DefunctLock) → Yes (from dkey b l) → Yes (from dkey b (flagged fs l))
-flag_order [] b l t = refl
-flag_order (f ∷ fs) b [] t = refl
-flag_order (true ∷ fs) b (x ∷ xs) t = and_i (leb b (dkey x)) (from dkey (suc (dkey x)) (flagged fs xs)) (and_l (leb b (dkey x)) (from dkey (suc (dkey x)) xs) t) (flag_order fs (suc (dkey x)) xs (rest dkey b x xs t))
-flag_order (false ∷ fs) b (x ∷ xs) t =
-    from_weaken dkey (suc (dkey x)) b (flagged fs xs) (omega (arith, leb-true b (dkey x) (and_l (leb b (dkey x)) (from dkey (suc (dkey x)) xs) t))) (flag_order fs (suc (dkey x)) xs (rest dkey b x xs t))
+    -- where all go
+    pub shed_none : (n : ℕ) → n ≡ length (map left_by (filter p l)) → n ≡ length l → (m : List DefunctLock) (b : DefunctLock) → b ≡ blank_defunct → m ≡ replicate (length l) b → Holds (length l) blank_defunct (remove_all (filter p l) l) m 0
+    shed_none n k e m b f q =
+        let none : remove_all (filter p l) l ≡ [] = sym left_all ∙ ap (λ (s : List DefunctLock). map (landed (filter p l)) (filter (λ d. non (p d)) s)) (take-length l) ∙ empty (filter (λ d. non (p d)) l) (omega (arith, k, length-map (filter p l) left_by, filter_split p l)) in
+        let z : length l - 0 ≡ length l = omega arith in
+        rw (none, z, q, f) (refl, refl)
+      where
+        empty : (s : List DefunctLock) → length s ≡ 0 → map (landed (filter p l)) s ≡ []
+        empty [] z = refl
+        empty (d ∷ ds) z = absurd (omega arith)
 
-flag_le : (fs : List Bool) (l : List DefunctLock) → length (flagged fs l) ≤ length l
-flag_le [] l = omega arith
-flag_le (f ∷ fs) [] = omega arith
-flag_le (true ∷ fs) (x ∷ xs) = omega (arith, flag_le fs xs)
-flag_le (false ∷ fs) (x ∷ xs) = omega (arith, flag_le fs xs)
+    pub gone_order : Yes (ascending dkey (filter p l))
+    gone_order = from_filter dkey p 0 l t.order
 
--- where one stays, not all are marked
-pub flag_less : (fs : List Bool) (l : List DefunctLock) (q : ℕ) → q < length l → get_or fs q false ≡ false → length (flagged fs l) < length l
-flag_less [] l q h e = omega arith
-flag_less (f ∷ fs) [] q h e = absurd (omega arith)
-flag_less (true ∷ fs) (x ∷ xs) zero h e = absurd (true≢false e)
-flag_less (true ∷ fs) (x ∷ xs) (suc q) h e = omega (arith, flag_less fs xs q (omega arith) e)
-flag_less (false ∷ fs) (x ∷ xs) q h e = omega (arith, flag_le fs xs)
+  -- ---- those that go, read out
+  module _ (gone : List Gone) (n i : ℕ) where
+    pub read_yes : Holds 128 nothing (map left_by (filter p (take i l))) gone n → n < 128 → i < length l → p (get_or l i blank_defunct) ≡ true → Holds 128 nothing (map left_by (filter p (take (i + 1) l))) (set gone n (left_by (get_or l i blank_defunct))) (n + 1)
+    read_yes h k g e = push 128 nothing (map left_by (filter p (take i l))) (map left_by (filter p (take (i + 1) l))) gone n (left_by (get_or l i blank_defunct)) h k (sift_yes left_by p l i blank_defunct g e)
 
--- ---- one more place is read
-module _ (goes : List Bool) (l : List DefunctLock) (i : ℕ) (h : i < length goes) (k : i < length l) where
-  pick_yes : get_or goes i false ≡ true → flagged (take (i + 1) goes) l ≡ flagged (take i goes) l ++ (get_or l i blank_defunct ∷ [])
-  pick_yes e = rw (more goes i false h, e) (rw (length-take-le i goes (omega arith)) at (flag_yes (take i goes) l blank_defunct (omega (arith, length-take-le i goes (omega arith)))))
+    pub read_no : Holds 128 nothing (map left_by (filter p (take i l))) gone n → i < length l → p (get_or l i blank_defunct) ≡ false → Holds 128 nothing (map left_by (filter p (take (i + 1) l))) gone n
+    read_no h g e = rw (sift_no left_by p l i blank_defunct g e) h
 
-  pick_no : get_or goes i false ≡ false → flagged (take (i + 1) goes) l ≡ flagged (take i goes) l
-  pick_no e = rw (more goes i false h, e) (flag_no (take i goes) l)
+    pub read_all : Holds 128 nothing (map left_by (filter p (take i l))) gone n → length l ≤ i → (take n gone ≡ map left_by (filter p l)) × (n ≡ length (map left_by (filter p l)))
+    read_all h g =
+        let k = rw (take_all i l g) at h in
+        (rw (k.0, k.1) (front (map left_by (filter p l)) _), k.1)
 
-  module _ (g : ℕ) (ids targets holders : List ℕ) (p : Picked (flagged (take i goes) l) g ids targets holders) where
-    pub pick_more : g < 128 → get_or goes i false ≡ true → (x : DefunctLock) → x ≡ get_or l i blank_defunct
-        → Picked (flagged (take (i + 1) goes) l) (g + 1) (set (set ids (2 * g) x.lock.id.hi) (2 * g + 1) x.lock.id.lo) (set (set targets (2 * g) x.target.hi) (2 * g + 1) x.target.lo) (set holders g x.holder)
-    pick_more w e x f = rw (pick_yes e, ← f) (picked_more (flagged (take i goes) l) g ids targets holders p x w)
-
-    pub pick_same : get_or goes i false ≡ false → Picked (flagged (take (i + 1) goes) l) g ids targets holders
-    pick_same e = rw (pick_no e) p
-
--- ---- those that stay are moved down: of the list l led on through those that go
-abbrev pub with_places : LockState → List DefunctLock → LockState
-with_places s l = record { revision = s.revision; active = s.active; actives = s.actives; defunct = l; defuncts = s.defuncts }
-
-abbrev pub staying : List Bool → List DefunctLock → List DefunctLock → ℕ → List DefunctLock
-staying goes gone l q = unflagged (take q goes) (take q (map (landed gone) l))
-
-module _ (goes : List Bool) (gone l : List DefunctLock) (s₀ s : LockState) (w q : ℕ) (h : q < length goes) (k : q < length l) (n : w ≡ length (staying goes gone l q)) (e : s ≡ with_places s₀ (over (staying goes gone l q) l)) where
-  far : q < length (map (landed gone) l)
-  far = omega (arith, length-map l (landed gone))
-
-  pub stay_count : get_or goes q false ≡ false → w + 1 ≡ length (staying goes gone l (q + 1))
-  stay_count t = omega (arith, ap length (sift_in goes (map (landed gone) l) q blank_defunct h far t), length-append (staying goes gone l q) (get_or (map (landed gone) l) q blank_defunct ∷ []))
-
-  pub stay_down : w ≤ q → get_or goes q false ≡ false → (x : DefunctLock) → x ≡ landed gone (get_or s.defunct q blank_defunct)
-      → with_places s (set s.defunct w x) ≡ with_places s₀ (over (staying goes gone l (q + 1)) l)
-  stay_down g t x f =
-      let was : get_or s.defunct q blank_defunct ≡ get_or l q blank_defunct = ap (λ (y : LockState). get_or y.defunct q blank_defunct) e ∙ over_read (staying goes gone l q) l q blank_defunct (omega arith) in
-      let is : x ≡ get_or (map (landed gone) l) q blank_defunct = f ∙ ap (landed gone) was ∙ sym (at_map (landed gone) l q blank_defunct k) in
-      ap (λ (y : LockState). with_places y (set y.defunct w x)) e
-      ∙ ap (with_places s₀) (over_push (staying goes gone l q) l x blank_defunct w n (omega arith)
-      ∙ ap (λ (y : DefunctLock). over (staying goes gone l q ++ (y ∷ [])) l) is
-      ∙ ap (λ (f : List DefunctLock). over f l) (sym (sift_in goes (map (landed gone) l) q blank_defunct h far t)))
-
-  pub gone_count : get_or goes q false ≡ true → w ≡ length (staying goes gone l (q + 1))
-  gone_count t = n ∙ ap length (sym (sift_out goes (map (landed gone) l) q blank_defunct h far t))
-
-  pub gone_down : get_or goes q false ≡ true → s ≡ with_places s₀ (over (staying goes gone l (q + 1)) l)
-  gone_down t = e ∙ ap (λ (f : List DefunctLock). with_places s₀ (over f l)) (sym (sift_out goes (map (landed gone) l) q blank_defunct h far t))
-
--- ---- blanks up to the old count, where all after it is blank
-module _ {A : Type 0} (f l m out : List A) (b d : A) (w n k : ℕ) (e : m ≡ over f l) (c : length f ≡ w) (g : w ≤ n) (t : in_places k d (take n l) ≡ l) (z : length (take n l) ≡ n) (u : b ≡ d) where
-  after : drop n m ≡ replicate (k - n) d
-  after =
-      let y : n ≡ length f + (n - w) = omega arith in
-      ap (drop n) e ∙ ap (λ (j : ℕ). drop j (over f l)) y ∙ drop-append-add f (drop (length f) l) (n - w) ∙ drop-drop (n - w) (length f) l ∙ ap (λ (j : ℕ). drop j l) (sym y)
-      ∙ ap (drop n) (sym t) ∙ drop_at (take n l) (replicate (k - length (take n l)) d) n z ∙ ap (λ (j : ℕ). replicate (k - j) d) z
-
-  pub blanks_end : n ≤ k → out ≡ over (in_places n b (take w m)) m → out ≡ in_places k d f
-  blanks_end h o =
-      let y : take w m ≡ f = ap (take w) e ∙ take_at f (drop (length f) l) w c in
-      let long : length (in_places n d f) ≡ n = omega (arith, length-append f (replicate (n - length f) d), length-replicate (n - length f) d) in
-      let sum : n - length f + (k - n) ≡ k - length f = omega arith in
-      o ∙ ap (λ (x : List A). over (in_places n b x) m) y ∙ ap (λ (x : A). over (in_places n x f) m) u
-      ∙ ap (λ (j : ℕ). in_places n d f ++ drop j m) long ∙ ap (λ (x : List A). in_places n d f ++ x) after
-      ∙ append_assoc f (replicate (n - length f) d) (replicate (k - n) d)
-      ∙ ap (λ (x : List A). f ++ x) (replicate-append-replicate (n - length f) (k - n) d ∙ ap (λ (j : ℕ). replicate j d) sum)
-
-take_map : {A B : Type 0} (f : A → B) (n : ℕ) (l : List A) → take n (map f l) ≡ map f (take n l)
-take_map f zero l = refl
-take_map f (suc n) [] = refl
-take_map f (suc n) (x ∷ xs) = ap (λ (t : List _). f x ∷ t) (take_map f n xs)
-
--- ---- the state that is left
-pub defunct_long : (s : LockState) → Tidy s → length s.defunct ≡ 128
-defunct_long s t = ap length (sym (defunct_in_lem s t)) ∙ length_places 128 blank_defunct (model_of s).defunct (omega (arith, defunct_count s t, t.defunct))
-
-module _ (s : LockState) (r : Ready s) (goes : List Bool) (w : length goes ≡ 128) where
-  abbrev entries : List DefunctLock
-  entries = (model_of s).defunct
-
-  abbrev marked : List DefunctLock
-  marked = flagged (take s.defuncts goes) entries
-
-  pub marked_order : Yes (ascending dkey marked)
-  marked_order = flag_order (take s.defuncts goes) 0 entries r.order
-
-  left_all : staying goes marked s.defunct s.defuncts ≡ remove_all marked entries
+-- ---- within a state
+module _ (s : LockState) (r : Ready s) where
+  pub settled_of : Settled (model_of s).defunct
   unfolding rule9
-  left_all = ap (unflagged (take s.defuncts goes)) (take_map (landed marked) s.defuncts s.defunct)
-      ∙ rw (defunct_count s r.tidy) at (landing goes entries r.order r.free (omega (arith, defunct_count s r.tidy, r.tidy.defunct)))
+  settled_of = record { few = omega (arith, defunct_count s r.tidy, r.tidy.defunct); order = r.order; free = r.free }
 
-  pub left_is : (k : ℕ) (out : List DefunctLock) → k ≡ length (staying goes marked s.defunct s.defuncts) → out ≡ in_places 128 blank_defunct (staying goes marked s.defunct s.defuncts)
-      → record { revision = s.revision; active = s.active; actives = s.actives; defunct = out; defuncts = k } ≡ with_entries s (remove_all marked entries)
-  left_is k out c e = λ j. record {
-    revision = s.revision;
-    active = s.active;
-    actives = s.actives;
-    defunct = (e ∙ ap (in_places 128 blank_defunct) left_all) j;
-    defuncts = (c ∙ ap length left_all) j;
-  }
+  pub shed_state : (ds : List DefunctLock) (m : List DefunctLock) (w : ℕ) → Holds (length (model_of s).defunct) blank_defunct (remove_all ds (model_of s).defunct) m w
+      → record { revision = s.revision; active = s.active; actives = s.actives; defunct = m ++ drop s.defuncts s.defunct; defuncts = w } ≡ with_entries s (remove_all ds (model_of s).defunct)
+  shed_state ds m w h = λ j. record { revision = s.revision; active = s.active; actives = s.actives; defunct = places j; defuncts = h.1 j }
+    where
+      l : List DefunctLock
+      l = remove_all ds (model_of s).defunct
 
-  -- after the three loops: m once those that stay are down, x once the rest is blank
-  pub passed : (m x : LockState) (k : ℕ) (b : DefunctLock) → k ≡ length (staying goes marked s.defunct s.defuncts) → m ≡ with_places s (over (staying goes marked s.defunct s.defuncts) s.defunct) → k ≤ s.defuncts
-      → x ≡ with_places m (over (in_places s.defuncts b (take k m.defunct)) m.defunct) → b ≡ blank_defunct
-      → record { revision = x.revision; active = x.active; actives = x.actives; defunct = x.defunct; defuncts = k } ≡ with_entries s (remove_all marked entries)
-  passed m x k b c e h f u =
-      let out = over (in_places s.defuncts b (take k m.defunct)) m.defunct in
-      ap (λ (y : LockState). record { revision = y.revision; active = y.active; actives = y.actives; defunct = y.defunct; defuncts = k }) f
-      ∙ ap (λ (y : LockState). record { revision = y.revision; active = y.active; actives = y.actives; defunct = out; defuncts = k }) e
-      ∙ left_is k out c
-      (blanks_end (staying goes marked s.defunct s.defuncts) s.defunct m.defunct out b blank_defunct k s.defuncts 128 (ap (λ (y : LockState). y.defunct) e) (sym c) h (defunct_in_lem s r.tidy) (defunct_count s r.tidy) u r.tidy.defunct refl)
+      few : length l ≤ s.defuncts
+      few = omega (arith, remove_all_le ds (model_of s).defunct, defunct_count s r.tidy)
 
--- one place more is blank
-pub blank_more : (s₀ s : LockState) (b : DefunctLock) (w z : ℕ) → s ≡ with_places s₀ (over (in_places z b (take w s₀.defunct)) s₀.defunct) → w ≤ z → z < length s₀.defunct → with_places s (set s.defunct z b) ≡ with_places s₀ (over (in_places (z + 1) b (take w s₀.defunct)) s₀.defunct)
-blank_more s₀ s b w z e h g = ap (λ (y : LockState). with_places y (set y.defunct z b)) e ∙ ap (with_places s₀) (blanking_step s₀.defunct b w _ z refl h g)
+      rest : drop s.defuncts s.defunct ≡ replicate (128 - s.defuncts) blank_defunct
+      rest = ap (drop s.defuncts) (sym (defunct_in_lem s r.tidy)) ∙ drop_at (model_of s).defunct (replicate (128 - length (model_of s).defunct) blank_defunct) s.defuncts (defunct_count s r.tidy) ∙ ap (λ (k : ℕ). replicate (128 - k) blank_defunct) (defunct_count s r.tidy)
+
+      sum : s.defuncts - length l + (128 - s.defuncts) ≡ 128 - length l
+      sum = omega (arith, few, r.tidy.defunct)
+
+      places : m ++ drop s.defuncts s.defunct ≡ in_places 128 blank_defunct l
+      places =
+          ap (λ (x : List DefunctLock). x ++ drop s.defuncts s.defunct) (h.0 ∙ ap (λ (k : ℕ). in_places k blank_defunct l) (defunct_count s r.tidy))
+          ∙ ap (λ (x : List DefunctLock). in_places s.defuncts blank_defunct l ++ x) rest
+          ∙ append_assoc l (replicate (s.defuncts - length l) blank_defunct) (replicate (128 - s.defuncts) blank_defunct)
+          ∙ ap (λ (x : List DefunctLock). l ++ x) (replicate-append-replicate (s.defuncts - length l) (128 - s.defuncts) blank_defunct ∙ ap (λ (k : ℕ). replicate k blank_defunct) sum)

@@ -5,60 +5,64 @@
 use mathlib.Core.Path.{◌≡◌, refl, sym, ap, ◌∙◌}
 use mathlib.Core.Bool.{Bool, true, false, cond}
 use mathlib.Core.List.{List, [], ◌∷◌}
-use mathlib.Core.Option.{Option, none, some}
+use Rattle.std.specs.Prelude.{Option, None, Some}
 use Prim.Native.Nat.{ℕ, suc, ◌+◌, ◌≤◌, ◌<◌}
 use native.Mathlib.Omega.{arith}
 use lib.Dec.{eqb, ltb}
-use lib.ListN.{length, get_or}
-use lib.Seq.{slice, slice_empty}
+use native.Mathlib.Numerals.{add-one}
+use lib.ListN.{length, get_or, drop}
+use lib.Seq.{drop-cons, drop-length}
 use borrow.Author.Tests.{eqb-true, eqb-false, ltb-true, ltb-false, lt-ltb, le-leb}
 use Rattle.lists.specs.Tests.{◌and◌, non, Yes, No}
 use Rattle.lists.specs.Lists.{any, find, filter, Mem, from}
 use Rattle.lists.proofs.Tests.{by, cond_true, cond_false, cond_both, non_t, non_f, and_i, and_l, and_r}
 use Rattle.lists.proofs.Lists.{find→, from→}
-use Rattle.lists.proofs.Loops.{rest_step}
 use Rattle.ids.specs.declared.LockId.{LockId}
 use Rattle.ids.specs.Order.{key, same_id, before_id}
 use Rattle.ids.specs.Words.{ids_of, insert_id, insert_ids, ascending_ids}
 use Rattle.ids.proofs.Words.{lower, lowest_of, lowest_where}
 use Rattle.state.specs.declared.ActiveLock.{ActiveLock}
 use Rattle.state.specs.Locks.{akey, has_id}
-use Rattle.operations.specs.declared.answers.Answer.{Answer}
-use Rattle.operations.specs.declared.answers.Answer.TheVariants.{Done, ActiveLockNotFound, BadChild}
+use Rattle.std.specs.Prelude.{Result, Ok, Err, ⊤}
+use Rattle.std.specs.Result.{is_err}
+use Rattle.operations.specs.declared.answers.Refusal.{Refusal}
+use Rattle.operations.specs.declared.answers.Refusal.TheVariants.{ActiveLockNotFound, BadChild}
 use Rattle.operations.specs.Answers.{is_done, refuse_if, and_then, first_refusal}
 use Rattle.operations.specs.Checks.{missing, check_active, settled_lock, check_free, check_listed}
-use Rattle.operations.specs.Code.{flagged, check_named}
+use Rattle.operations.specs.Code.{check_named}
 
-module _ {A : Type 0} (c : A → Answer) where
+module _ {A : Type 0} (c : A → Result ⊤ Refusal) where
   abbrev pub refuses : A → Bool
   refuses a = non (is_done (c a))
 
-  abbrev pub told_by : Option A → Answer
-  told_by none = Done
-  told_by (some a) = c a
+  abbrev pub told_by : Option A → Result ⊤ Refusal
+  told_by None = Ok tt
+  told_by (Some a) = c a
 
   pub first_find : (l : List A) → first_refusal c l ≡ told_by (find refuses l)
   unfolding and_then
   first_find [] = refl
   first_find (a ∷ l) = by (is_done (c a)) (first_refusal c (a ∷ l) ≡ told_by (find refuses (a ∷ l)))
-      (λ t. cond_true (is_done (c a)) (first_refusal c l) (c a) t ∙ first_find l ∙ ap told_by (sym (cond_false (refuses a) (some a) (find refuses l) (non_t (is_done (c a)) t))))
-      (λ t. cond_false (is_done (c a)) (first_refusal c l) (c a) t ∙ ap told_by (sym (cond_true (refuses a) (some a) (find refuses l) (non_f (is_done (c a)) t))))
+      (λ t. cond_true (is_done (c a)) (first_refusal c l) (c a) t ∙ first_find l ∙ ap told_by (sym (cond_false (refuses a) (Some a) (find refuses l) (non_t (is_done (c a)) t))))
+      (λ t. cond_false (is_done (c a)) (first_refusal c l) (c a) t ∙ ap told_by (sym (cond_true (refuses a) (Some a) (find refuses l) (non_f (is_done (c a)) t))))
 
-  -- ---- a loop over a list, of which the marked places are checked
-  module _ (fs : List Bool) (l : List A) (n i : ℕ) (d : A) (h : i < n) (v : n ≤ length fs) (w : n ≤ length l) where
-    pub marked_refused : get_or fs i false ≡ true → is_done (c (get_or l i d)) ≡ false → first_refusal c (flagged (slice i n fs) (slice i n l)) ≡ c (get_or l i d)
-    unfolding and_then
-    marked_refused t u = rw (rest_step fs n i false h v, rest_step l n i d h w, t) (cond_false (is_done (c (get_or l i d))) _ (c (get_or l i d)) u)
+  -- ---- a loop over a list, of which those that the test p picks are checked
+  module _ (p : A → Bool) (l : List A) (n : ℕ) where
+    module _ (d : A) (h : n < length l) where
+      pub picked : p (get_or l n d) ≡ true → first_refusal c (filter p (drop n l)) ≡ and_then (c (get_or l n d)) (first_refusal c (filter p (drop (n + 1) l)))
+      picked e = rw (drop-cons l n d h, e, add-one n)
 
-    pub marked_passed : get_or fs i false ≡ true → is_done (c (get_or l i d)) ≡ true → first_refusal c (flagged (slice i n fs) (slice i n l)) ≡ first_refusal c (flagged (slice (i + 1) n fs) (slice (i + 1) n l))
-    unfolding and_then
-    marked_passed t u = rw (rest_step fs n i false h v, rest_step l n i d h w, t) (cond_true (is_done (c (get_or l i d))) _ (c (get_or l i d)) u)
+      pub not_picked : p (get_or l n d) ≡ false → first_refusal c (filter p (drop n l)) ≡ first_refusal c (filter p (drop (n + 1) l))
+      not_picked e = rw (drop-cons l n d h, e, add-one n)
 
-    pub marked_not : get_or fs i false ≡ false → first_refusal c (flagged (slice i n fs) (slice i n l)) ≡ first_refusal c (flagged (slice (i + 1) n fs) (slice (i + 1) n l))
-    marked_not t = rw (rest_step fs n i false h v, rest_step l n i d h w, t)
+    pub none_left : n ≤ length l → length l ≤ n → first_refusal c (filter p (drop n l)) ≡ Ok tt
+    none_left g h = let e : n ≡ length l = omega arith in rw (e, drop-length l)
 
-  pub marked_none : (fs : List Bool) (l : List A) (n i : ℕ) → i ≤ n → n ≤ i → first_refusal c (flagged (slice i n fs) (slice i n l)) ≡ Done
-  marked_none fs l n i h k = let e : i ≡ n = omega arith in rw (e, slice_empty n fs)
+-- what the code asks of a check
+pub err_is : (a : Result ⊤ Refusal) → is_err a ≡ non (is_done a)
+unfolding is_done non
+err_is (Ok _) = refl
+err_is (Err _) = refl
 
 -- ---- ids in ascending order
 -- what is put in keeps the order
@@ -85,17 +89,17 @@ module _ (r : LockId → Bool) (same : (i j : LockId) → key i ≡ key j → r 
   abbrev among : LockId → List LockId → Option LockId
   among i l = cond (r i) (lower (find r l) i) (find r l)
 
-  lower_front : (i : LockId) (l : List LockId) → ((z : LockId) → Mem z l → Yes (before_id i z)) → lower (find r l) i ≡ some i
+  lower_front : (i : LockId) (l : List LockId) → ((z : LockId) → Mem z l → Yes (before_id i z)) → lower (find r l) i ≡ Some i
   lower_front i l f = go (find r l) refl
     where
-      go : (o : Option LockId) → find r l ≡ o → lower o i ≡ some i
-      go none e = refl
-      go (some z) e = cond_true (before_id i z) (some i) (some z) (f z (find→ r l e).0)
+      go : (o : Option LockId) → find r l ≡ o → lower o i ≡ Some i
+      go None e = refl
+      go (Some z) e = cond_true (before_id i z) (Some i) (Some z) (f z (find→ r l e).0)
 
   -- where the first found is not after i, it stays
-  stays : (i j : LockId) (l : List LockId) → No (before_id i j) → find r l ≡ some j → some j ≡ among i l
-  stays i j l t e = by (r i) (some j ≡ among i l)
-      (λ u. sym (cond_false (before_id i j) (some i) (some j) t) ∙ ap (λ (o : Option LockId). lower o i) (sym e) ∙ sym (cond_true (r i) (lower (find r l) i) (find r l) u))
+  stays : (i j : LockId) (l : List LockId) → No (before_id i j) → find r l ≡ Some j → Some j ≡ among i l
+  stays i j l t e = by (r i) (Some j ≡ among i l)
+      (λ u. sym (cond_false (before_id i j) (Some i) (Some j) t) ∙ ap (λ (o : Option LockId). lower o i) (sym e) ∙ sym (cond_true (r i) (lower (find r l) i) (find r l) u))
       (λ u. sym e ∙ sym (cond_false (r i) (lower (find r l) i) (find r l) u))
 
   find_insert : (b : ℕ) (i : LockId) (js : List LockId) → Yes (from key b js) → find r (insert_id i js) ≡ among i js
@@ -108,8 +112,8 @@ module _ (r : LockId → Bool) (same : (i j : LockId) → key i ≡ key j → r 
       later : Yes (before_id i j) → (z : LockId) → Mem z (j ∷ js) → Yes (before_id i z)
       later t z m = after i j z t (from→ key (key j) (and_i _ _ (le-leb (key j) (key j) (omega arith)) (and_r _ _ h)) m)
 
-      here : r j ≡ true → find r (j ∷ js) ≡ some j
-      here u = cond_true (r j) (some j) (find r js) u
+      here : r j ≡ true → find r (j ∷ js) ≡ Some j
+      here u = cond_true (r j) (Some j) (find r js) u
 
       equal : No (before_id i j) → Yes (same_id i j) → find r (j ∷ js) ≡ among i (j ∷ js)
       equal t s = by (r i) (find r (j ∷ js) ≡ among i (j ∷ js))
@@ -118,8 +122,8 @@ module _ (r : LockId → Bool) (same : (i j : LockId) → key i ≡ key j → r 
 
       higher : No (before_id i j) → find r (insert_id i js) ≡ among i js → No (same_id i j) → find r (j ∷ insert_id i js) ≡ among i (j ∷ js)
       higher t q s = by (r j) (find r (j ∷ insert_id i js) ≡ among i (j ∷ js))
-          (λ u. cond_true (r j) (some j) (find r (insert_id i js)) u ∙ stays i j (j ∷ js) t (here u))
-          (λ u. cond_false (r j) (some j) (find r (insert_id i js)) u ∙ q ∙ ap (λ (o : Option LockId). cond (r i) (lower o i) o) (sym (cond_false (r j) (some j) (find r js) u)))
+          (λ u. cond_true (r j) (Some j) (find r (insert_id i js)) u ∙ stays i j (j ∷ js) t (here u))
+          (λ u. cond_false (r j) (Some j) (find r (insert_id i js)) u ∙ q ∙ ap (λ (o : Option LockId). cond (r i) (lower o i) o) (sym (cond_false (r j) (Some j) (find r js) u)))
 
   find_sorted : (is js : List LockId) → Yes (from key 0 js) → find r (insert_ids is js) ≡ lowest_of (find r js) (filter r is)
   find_sorted [] js h = refl
@@ -131,12 +135,12 @@ module _ (r : LockId → Bool) (same : (i j : LockId) → key i ≡ key j → r 
   find_lowest ws = find_sorted (ids_of ws) [] refl
 
 -- ---- the checks of an id go by its key
-refuse_test : (b : Bool) (a : Answer) → is_done a ≡ false → is_done (refuse_if b a Done) ≡ non b
+refuse_test : (b : Bool) (a : Result ⊤ Refusal) → is_done a ≡ false → is_done (refuse_if b a (Ok tt)) ≡ non b
 unfolding refuse_if is_done non
 refuse_test true a e = e
 refuse_test false a e = refl
 
-both_test : (a b : Answer) → is_done (and_then a b) ≡ (is_done a and is_done b)
+both_test : (a b : Result ⊤ Refusal) → is_done (and_then a b) ≡ (is_done a and is_done b)
 unfolding and_then ◌and◌
 both_test a b = go (is_done a) refl
   where
@@ -153,11 +157,11 @@ module _ (l : List ActiveLock) where
 
   active_test : (i : LockId) → is_done (check_active l i) ≡ non (gone_at (key i))
   unfolding check_active missing has_id is_done
-  active_test i = refuse_test (gone_at (key i)) (ActiveLockNotFound i) refl
+  active_test i = refuse_test (gone_at (key i)) (Err (ActiveLockNotFound i)) refl
 
   free_test : (i : LockId) → is_done (check_free l i) ≡ non (stuck_at (key i))
   unfolding check_free has_id is_done
-  free_test i = refuse_test (stuck_at (key i)) (BadChild i) refl
+  free_test i = refuse_test (stuck_at (key i)) (Err (BadChild i)) refl
 
   pub active_same : (i j : LockId) → key i ≡ key j → refuses (check_active l) i ≡ refuses (check_active l) j
   active_same i j e = ap non (active_test i ∙ ap (λ (k : ℕ). non (gone_at k)) e ∙ sym (active_test j))

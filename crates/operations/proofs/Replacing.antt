@@ -6,41 +6,45 @@ use mathlib.Core.List.{List, [], map}
 use Prim.Native.Nat.{ℕ, suc, ◌+◌, ◌≤◌, ◌<◌}
 use native.Mathlib.Omega.{arith}
 use lib.Dec.{eqb, ltb, leb}
-use lib.ListN.{length, get_or, take, replicate, length-map}
+use lib.ListN.{length, get_or, take, length-map}
 use borrow.Author.Tests.{eqb-true, eqb-false, ltb-true, ltb-false, le-leb, lt-leb}
-use Rattle.lists.specs.Tests.{◌or◌, non, Yes}
+use Rattle.std.specs.List.{list_any}
+use Rattle.lists.specs.Tests.{◌and◌, ◌or◌, non, Yes}
 use Rattle.lists.specs.Lists.{any, filter, insert_by, ascending}
 use Rattle.lists.specs.Places.{in_places}
-use Rattle.lists.proofs.Tests.{by as cases, and_f, and_t, non_t, non_f, or_t, or_f, or_no, or_code, codes, cond_true, cond_false}
+use Rattle.lists.proofs.Tests.{by as cases, and_f, and_t, non_t, non_f, or_t, or_f, or_no, or_code, and_code, codes, cond_true, cond_false}
 use Rattle.lists.proofs.Lists.{length_insert}
+use Rattle.lists.proofs.Std.{any_as}
 use Rattle.state.specs.declared.ActiveLock.{ActiveLock}
 use Rattle.state.specs.declared.DefunctLock.{DefunctLock}
 use Rattle.state.specs.declared.LockState.{LockState}
 use Rattle.state.specs.Locks.{akey, dkey, is_vehicle, has_id, normal, blank_active, blank_defunct}
 use Rattle.state.specs.Model.{Model, model_of, state_of, full, fits, Tidy}
 use Rattle.state.proofs.Laws.{active_count}
-use Rattle.rules.specs.declared.Verdict.{Verdict}
-use Rattle.rules.specs.declared.Verdict.TheVariants.{Sound, Broken}
-use Rattle.rules.specs.Rules.{broken_rule}
+use Rattle.std.specs.Prelude.{Result, Ok, Err, ⊤}
+use Rattle.rules.specs.declared.Unsound.{Unsound}
+use Rattle.rules.specs.declared.Unsound.TheVariants.{Rule}
+use Rattle.rules.specs.Rules.{broken_rule, is_sound}
 use Rattle.rules.proofs.Sound.{facts_of_state}
-use Rattle.lookups.proofs.Verdicts.{on_broken, on_sound_lem}
-use Rattle.operations.specs.declared.answers.Answer.{Answer}
-use Rattle.operations.specs.declared.answers.Answer.TheVariants.{Done, ReplacementScopeConflict, NoRoom, Invariant, UnsoundState}
-use Rattle.operations.specs.declared.answers.Replaced.{Replaced}
+use Rattle.lookups.specs.Reads.{by_verdict, on_sound, on_scope}
+use Rattle.lookups.proofs.Verdicts.{on_sound_lem}
+use Rattle.operations.specs.declared.answers.Refusal.{Refusal}
+use Rattle.operations.specs.declared.answers.Refusal.TheVariants.{ReplacementScopeConflict, Invariant, UnsoundState, NoRoom}
+use Rattle.operations.specs.Answers.{Replaced}
 use Rattle.operations.specs.declared.defuncts.Table.{Table}
 use Rattle.operations.specs.declared.entering.Ledger.{Ledger}
 use Rattle.operations.specs.declared.trees.Split.{Split}
-use Rattle.operations.specs.Answers.{is_done, and_then, first_refusal}
+use Rattle.operations.specs.Answers.{rule_of, is_done, and_then, first_refusal}
 use Rattle.operations.specs.Defuncts.{to_defunct, enter_all, superseded, supersede}
-use Rattle.operations.specs.Trees.{Parts}
+use Rattle.operations.specs.Trees.{Parts, in_tree, is_listed, in_trees}
 use Rattle.operations.specs.Checks.{check_list, check_revision, check_child, check_room, outside, check_holder, last_revision}
 use Rattle.operations.specs.Vehicle.{adopt}
 use Rattle.operations.specs.Replace.{orphan, cut_of, entered_of, replaced_in, judge_replace, replaced, closed_replace, settled_replace, commit_replacement_with, commit_replacement_on}
-use Rattle.operations.specs.Code.{Placed, Ready, Cut, parts_of, split_of, entries_of, table_of, Laid, Ranked, unflagged, hand_on, check_insert, check_entry, replaced_by, left_in, judge_left, left_on, Listed}
+use Rattle.operations.specs.Code.{Placed, Ready, Cut, parts_of, split_of, entries_of, table_of, Laid, Ranked, unflagged, hand_on, check_insert, check_entry, replaced_by, left_in, judge_left, left_on, Listed, on_tested, closing}
 use Rattle.operations.proofs.Going.{placed_count, kept_count, parts_back, cut_of_lem, roots_size}
 use Rattle.operations.proofs.Leaving.{entries_back, laid_of, shed_all, shed_by}
 use Rattle.operations.proofs.Coming.{enter_length}
-use Rattle.operations.proofs.Closing.{lists_test, closed_sound, closed_broken}
+use Rattle.operations.proofs.Closing.{on_unsound, lists_test}
 use Rattle.operations.proofs.Chains.{refuse, go_on, and_then_lem, first_done, rest_done, revision_left}
 use Rattle.operations.proofs.Bundles.{judge_replace_lem}
 use Rattle.operations.proofs.Ordering.{entered_order}
@@ -51,12 +55,19 @@ unfolding orphan
 orphan_is x a v h e f = rw (e, f) (simp codes)
 
 -- ---- 6
+-- what the code's tests of the locks are
+trees_is : (l : List ActiveLock) (ws : List ℕ) (a : ActiveLock) → list_any (λ r. in_tree r a && is_listed ws r) l ≡ in_trees ws l a
+trees_is l ws a = any_as (λ r. in_tree r a and is_listed ws r) (λ r. in_tree r a && is_listed ws r) (λ r. and_code (in_tree r a) (is_listed ws r)) l
+
+pub outside_is : (l : List ActiveLock) (ws : List ℕ) (x : ActiveLock) → list_any (λ a. on_scope x.lock.scope a && not (list_any (λ r. in_tree r a && is_listed ws r) l)) l ≡ any (outside ws l x) l
+outside_is l ws x = any_as (outside ws l x) _ (λ a. rw (trees_is l ws a) (simp codes)) l
+
 module _ (l : List ActiveLock) (ws : List ℕ) (x : ActiveLock) (b : Bool) (e : b ≡ any (outside ws l x) l) where
-  pub holder_yes : b ≡ true → ReplacementScopeConflict ≡ check_holder l ws x
+  pub holder_yes : b ≡ true → (Err ReplacementScopeConflict) ≡ check_holder l ws x
   unfolding check_holder
   holder_yes t = sym (refuse _ _ _ (sym e ∙ t))
 
-  pub holder_no : b ≡ false → Done ≡ check_holder l ws x
+  pub holder_no : b ≡ false → (Ok tt) ≡ check_holder l ws x
   unfolding check_holder
   holder_no t = sym (go_on _ _ _ (sym e ∙ t))
 
@@ -91,21 +102,25 @@ module _ (x : ActiveLock) (by at : ℕ) (g : List ActiveLock) (t : List DefunctL
 
 -- ---- the answers
 -- nothing removed
-pub none_removed : (b : ActiveLock) → b ≡ blank_active → (a : Answer) (s : LockState) → record { told = record { answer = a; gone = 0; removed = replicate 64 b }; state = s } ≡ replaced a [] s
-none_removed b e a s = λ j. record { told = record { answer = a; gone = 0; removed = replicate 64 (e j) }; state = s }
+-- n is the next state, w what the closing check answered
+module _ (s n : LockState) (gone : ℕ) (removed : List ActiveLock) (h : Placed removed gone) (w : Result ⊤ Refusal) (q : w ≡ closing n) where
+  pub shut_refused : (e : Refusal) → w ≡ Err e → replaced (Err e) [] s ≡ replaced_by s (take gone removed) n
+  unfolding replaced_by closing
+  shut_refused e f = go (is_sound (broken_rule n)) (sym f ∙ q)
+    where
+      go : (b : Bool) → ◌≡◌ {A = Result ⊤ Refusal} (Err e) (cond b (Ok tt) (Err Invariant)) → replaced (Err e) [] s ≡ cond b (replaced (Ok tt) (take gone removed) n) (replaced (Err Invariant) [] s)
+      go true u = absurd (cc)
+      go false u = ap (λ (a : Result ⊤ Refusal). replaced a [] s) u
 
-module _ (s n : LockState) (gone : ℕ) (removed : List ActiveLock) (h : Placed removed gone) (v : Verdict) (e : v ≡ broken_rule n) where
-  pub shut_broken : (k : ℕ) → v ≡ Broken k → (r : Replaced) → r ≡ replaced Invariant [] s → r ≡ replaced_by s (take gone removed) n
-  unfolding replaced_by
-  shut_broken k f r z = z ∙ sym (closed_broken n (replaced Done (take gone removed) n) (replaced Invariant [] s) v e k f)
+  pub shut_done : {x : ⊤} → w ≡ Ok x → record { told = record { answer = Ok tt; gone = gone; removed = removed }; state = n } ≡ replaced_by s (take gone removed) n
+  unfolding replaced_by closing
+  shut_done {x} f = go (is_sound (broken_rule n)) (sym f ∙ q)
+    where
+      go : (b : Bool) → ◌≡◌ {A = Result ⊤ Refusal} (Ok x) (cond b (Ok tt) (Err Invariant)) → record { told = record { answer = Ok tt; gone = gone; removed = removed }; state = n } ≡ cond b (replaced (Ok tt) (take gone removed) n) (replaced (Err Invariant) [] s)
+      go true u = λ j. record { told = record { answer = Ok tt; gone = sym (placed_count removed gone h) j; removed = sym h.same j }; state = n }
+      go false u = absurd (cc)
 
-  pub shut_sound : v ≡ Sound → record { told = record { answer = Done; gone = gone; removed = removed }; state = n } ≡ replaced_by s (take gone removed) n
-  unfolding replaced_by
-  shut_sound f =
-      (λ j. record { told = record { answer = Done; gone = sym (placed_count removed gone h) j; removed = sym h.same j }; state = n })
-      ∙ sym (closed_sound n (replaced Done (take gone removed) n) (replaced Invariant [] s) v e f)
-
-module _ (a : Answer) (s : LockState) (g : List ActiveLock) (m : Model) where
+module _ (a : Result ⊤ Refusal) (s : LockState) (g : List ActiveLock) (m : Model) where
   refused_is : is_done a ≡ false → replaced a [] s ≡ settled_replace full a s g m
   unfolding settled_replace
   refused_is t = sym (cond_false (is_done a) (closed_replace full s g m) (replaced a [] s) t)
@@ -115,7 +130,7 @@ module _ (a : Answer) (s : LockState) (g : List ActiveLock) (m : Model) where
   done_is t = sym (cond_true (is_done a) (closed_replace full s g m) (replaced a [] s) t)
 
 -- ---- once the trees are out
-module _ (s : LockState) (h : Ready s) (q : Split) (c : Cut q) (x : ActiveLock) (by at : ℕ) where
+module _ (s : LockState) (h : Ready s) (q : Split ActiveLock) (c : Cut q) (x : ActiveLock) (by at : ℕ) where
   abbrev p : Parts
   p = parts_of q
 
@@ -123,22 +138,22 @@ module _ (s : LockState) (h : Ready s) (q : Split) (c : Cut q) (x : ActiveLock) 
   m = model_of s
 
   pub gone_placed : Placed q.removed q.gone
-  gone_placed = record { room = omega (arith, c.room); same = ap (λ (y : Split). y.removed) c.same }
+  gone_placed = record { room = omega (arith, c.room); same = ap (λ (y : Split ActiveLock). y.removed) c.same }
 
-  module _ (a : Answer) (g : a ≡ and_then (check_insert p.kept x) (and_then (check_revision s.revision) (first_refusal (check_child x) (filter (orphan x) p.kept)))) (b : Bool) (f : b ≡ is_done a) where
+  module _ (a : Result ⊤ Refusal) (g : a ≡ and_then (check_insert p.kept x) (and_then (check_revision s.revision) (first_refusal (check_child x) (filter (orphan x) p.kept)))) (b : Bool) (f : b ≡ is_done a) where
     judge_is : judge_left m p x by at ≡ and_then a (check_room full (left_in m p x by at))
     unfolding judge_left
     judge_is =
         ap (and_then (check_insert p.kept x)) (sym (and_then_lem (check_revision s.revision) (first_refusal (check_child x) (filter (orphan x) p.kept)) (check_room full (left_in m p x by at))))
         ∙ sym (and_then_lem (check_insert p.kept x) (and_then (check_revision s.revision) (first_refusal (check_child x) (filter (orphan x) p.kept))) (check_room full (left_in m p x by at)))
-        ∙ ap (λ (y : Answer). and_then y (check_room full (left_in m p x by at))) (sym g)
+        ∙ ap (λ (y : Result ⊤ Refusal). and_then y (check_room full (left_in m p x by at))) (sym g)
 
     pub left_refused : b ≡ false → (r : Replaced) → r ≡ replaced a [] s → r ≡ left_on s p x by at
     unfolding left_on and_then
     left_refused t r k =
         let u : is_done a ≡ false = sym f ∙ t in
         let j : judge_left m p x by at ≡ a = judge_is ∙ cond_false (is_done a) (check_room full (left_in m p x by at)) a u in
-        k ∙ ap (λ (y : Answer). replaced y [] s) (sym j) ∙ refused_is (judge_left m p x by at) s p.gone (left_in m p x by at) (ap is_done j ∙ u)
+        k ∙ ap (λ (y : Result ⊤ Refusal). replaced y [] s) (sym j) ∙ refused_is (judge_left m p x by at) s p.gone (left_in m p x by at) (ap is_done j ∙ u)
 
     module _ (t : b ≡ true) where
       rest_is : judge_left m p x by at ≡ check_room full (left_in m p x by at)
@@ -163,11 +178,11 @@ module _ (s : LockState) (h : Ready s) (q : Split) (c : Cut q) (x : ActiveLock) 
                 (λ z. lt-leb (length (entered_of x by at p.gone m.defunct)) 128 (omega (arith, ltb-true 128 u.count z, k.count)) ∙ sym (non_t _ (or_f _ _ y ∙ z)))
                 (λ z. le-leb (length (entered_of x by at p.gone m.defunct)) 128 (omega (arith, ltb-false 128 u.count z, k.count)) ∙ sym (non_f _ (or_f _ _ y ∙ z)))
 
-        pub left_full : (eqb q.left 64 || ltb 128 u.count) ≡ true → (r : Replaced) → r ≡ replaced NoRoom [] s → r ≡ left_on s p x by at
+        pub left_full : (eqb q.left 64 || ltb 128 u.count) ≡ true → (r : Replaced) → r ≡ replaced (Err NoRoom) [] s → r ≡ left_on s p x by at
         unfolding left_on check_room is_done
         left_full y r z =
-            let j : judge_left m p x by at ≡ NoRoom = rest_is ∙ refuse _ _ _ (non_f _ (room_is ∙ non_t _ y)) in
-            z ∙ ap (λ (o : Answer). replaced o [] s) (sym j) ∙ refused_is (judge_left m p x by at) s p.gone (left_in m p x by at) (ap is_done j)
+            let j : judge_left m p x by at ≡ (Err NoRoom) = rest_is ∙ refuse _ _ _ (non_f _ (room_is ∙ non_t _ y)) in
+            z ∙ ap (λ (o : Result ⊤ Refusal). replaced o [] s) (sym j) ∙ refused_is (judge_left m p x by at) s p.gone (left_in m p x by at) (ap is_done j)
 
         module _ (y : (eqb q.left 64 || ltb 128 u.count) ≡ false) where
           pub left_room : (q.left < 64) × (u.count ≤ 128)
@@ -195,31 +210,31 @@ module _ (s : LockState) (h : Ready s) (q : Split) (c : Cut q) (x : ActiveLock) 
 
             pub left_done : (n : LockState) (r : Replaced) → n ≡ record { revision = s.revision + 1; active = d; actives = q.left + 1; defunct = u.list; defuncts = u.count } → r ≡ replaced_by s p.gone n → r ≡ left_on s p x by at
             unfolding left_on closed_replace replaced_by
-            left_done n r o z = z ∙ ap (replaced_by s p.gone) (o ∙ next_is) ∙ ap (λ (y : Bool). cond y (replaced Done p.gone (state_of (left_in m p x by at))) (replaced Invariant [] s)) (lists_test (left_in m p x by at)) ∙ done_is (judge_left m p x by at) s p.gone (left_in m p x by at) done
+            left_done n r o z = z ∙ ap (replaced_by s p.gone) (o ∙ next_is) ∙ ap (λ (y : Bool). cond y (replaced (Ok tt) p.gone (state_of (left_in m p x by at))) (replaced (Err Invariant) [] s)) (lists_test (left_in m p x by at)) ∙ done_is (judge_left m p x by at) s p.gone (left_in m p x by at) done
 
 -- ---- the whole
-module _ (s : LockState) (ws : List ℕ) (y x : ActiveLock) (f : x ≡ normal y) (by at : ℕ) (v : Verdict) (e : v ≡ broken_rule s) where
-  pub whole_broken : (n : ℕ) → v ≡ Broken n → (r : Replaced) → r ≡ replaced (UnsoundState n) [] s → r ≡ commit_replacement_on s ws y by at
+module _ (s : LockState) (ws : List ℕ) (y x : ActiveLock) (f : x ≡ normal y) (by at : ℕ) (v : Result ⊤ Unsound) (e : v ≡ broken_rule s) where
+  pub whole_broken : (n : Unsound) → v ≡ Err n → (r : Replaced) → r ≡ replaced (Err (UnsoundState (rule_of n))) [] s → r ≡ commit_replacement_on s ws y by at
   unfolding commit_replacement_on commit_replacement_with
-  whole_broken n g r k = k ∙ on_broken s (λ n. replaced (UnsoundState n) [] s) _ v n e g
+  whole_broken n g r k = k ∙ on_unsound s (λ n. replaced (Err (UnsoundState n)) [] s) _ v n e g
 
-  module _ (g : v ≡ Sound) (a : Answer) (h : a ≡ and_then (check_list ws) (check_entry (model_of s).active (model_of s).defunct ws x)) (b : Bool) (d : b ≡ is_done a) where
+  module _ (g : v ≡ Ok tt) (a : Result ⊤ Refusal) (h : a ≡ and_then (check_list ws) (check_entry (model_of s).active (model_of s).defunct ws x)) (b : Bool) (d : b ≡ is_done a) where
     entry_is : judge_replace full (model_of s) ws x by at ≡ and_then a (judge_left (model_of s) (cut_of (model_of s) ws) x by at)
     unfolding judge_left replaced_in left_in
-    entry_is = judge_replace_lem full (model_of s) ws x by at ∙ sym (and_then_lem (check_list ws) (check_entry (model_of s).active (model_of s).defunct ws x) _) ∙ ap (λ (o : Answer). and_then o (judge_left (model_of s) (cut_of (model_of s) ws) x by at)) (sym h)
+    entry_is = judge_replace_lem full (model_of s) ws x by at ∙ sym (and_then_lem (check_list ws) (check_entry (model_of s).active (model_of s).defunct ws x) _) ∙ ap (λ (o : Result ⊤ Refusal). and_then o (judge_left (model_of s) (cut_of (model_of s) ws) x by at)) (sym h)
 
     whole : settled_replace full (judge_replace full (model_of s) ws x by at) s (cut_of (model_of s) ws).gone (replaced_in (model_of s) ws x by at) ≡ commit_replacement_on s ws y by at
     unfolding commit_replacement_on commit_replacement_with
-    whole = ap (λ (o : ActiveLock). settled_replace full (judge_replace full (model_of s) ws o by at) s (cut_of (model_of s) ws).gone (replaced_in (model_of s) ws o by at)) f ∙ on_sound_lem s (λ n. replaced (UnsoundState n) [] s) _ v e g
+    whole = ap (λ (o : ActiveLock). settled_replace full (judge_replace full (model_of s) ws o by at) s (cut_of (model_of s) ws).gone (replaced_in (model_of s) ws o by at)) f ∙ on_sound_lem s (λ n. replaced (Err (UnsoundState n)) [] s) _ v e g
 
     pub whole_refused : b ≡ false → (r : Replaced) → r ≡ replaced a [] s → r ≡ commit_replacement_on s ws y by at
     unfolding and_then
     whole_refused t r k =
         let u : is_done a ≡ false = sym d ∙ t in
         let j : judge_replace full (model_of s) ws x by at ≡ a = entry_is ∙ cond_false (is_done a) (judge_left (model_of s) (cut_of (model_of s) ws) x by at) a u in
-        k ∙ ap (λ (o : Answer). replaced o [] s) (sym j) ∙ refused_is (judge_replace full (model_of s) ws x by at) s (cut_of (model_of s) ws).gone (replaced_in (model_of s) ws x by at) (ap is_done j ∙ u) ∙ whole
+        k ∙ ap (λ (o : Result ⊤ Refusal). replaced o [] s) (sym j) ∙ refused_is (judge_replace full (model_of s) ws x by at) s (cut_of (model_of s) ws).gone (replaced_in (model_of s) ws x by at) (ap is_done j ∙ u) ∙ whole
 
-    module _ (k : Tidy s) (q : Split) (i : q ≡ split_of (cut_of (model_of s) ws)) where
+    module _ (k : Tidy s) (q : Split ActiveLock) (i : q ≡ split_of (cut_of (model_of s) ws)) where
       cut_is : parts_of q ≡ cut_of (model_of s) ws
       cut_is = ap parts_of i ∙ parts_back (cut_of (model_of s) ws)
 
@@ -235,4 +250,26 @@ module _ (s : LockState) (ws : List ℕ) (y x : ActiveLock) (f : x ≡ normal y)
       unfolding left_on and_then replaced_in left_in
       whole_rest t r z =
           let j : judge_replace full (model_of s) ws x by at ≡ judge_left (model_of s) (cut_of (model_of s) ws) x by at = entry_is ∙ cond_true (is_done a) (judge_left (model_of s) (cut_of (model_of s) ws) x by at) a (sym d ∙ t) in
-          z ∙ ap (λ (o : Parts). left_on s o x by at) cut_is ∙ ap (λ (o : Answer). settled_replace full o s (cut_of (model_of s) ws).gone (replaced_in (model_of s) ws x by at)) (sym j) ∙ whole
+          z ∙ ap (λ (o : Parts). left_on s o x by at) cut_is ∙ ap (λ (o : Result ⊤ Refusal). settled_replace full o s (cut_of (model_of s) ws).gone (replaced_in (model_of s) ws x by at)) (sym j) ∙ whole
+
+-- ---- the test of the state and the judgement of it in one: a is what they answered
+module _ (s : LockState) (ws : List ℕ) (y x : ActiveLock) (f : x ≡ normal y) (by at : ℕ) (a : Result ⊤ Refusal) where
+  abbrev entry : Result ⊤ Refusal
+  entry = and_then (check_list ws) (check_entry (model_of s).active (model_of s).defunct ws x)
+
+  module _ (h : a ≡ on_tested s entry) where
+    pub entry_refused : (e : Refusal) → a ≡ Err e → replaced (Err e) [] s ≡ commit_replacement_on s ws y by at
+    unfolding on_sound is_done
+    entry_refused e q = go (broken_rule s) refl (sym q ∙ h)
+      where
+        go : (v : Result ⊤ Unsound) → v ≡ broken_rule s → ◌≡◌ {A = Result ⊤ Refusal} (Err e) (by_verdict v (λ n. Err (UnsoundState n)) entry) → replaced (Err e) [] s ≡ commit_replacement_on s ws y by at
+        go (Ok _) w u = whole_refused s ws y x f by at (Ok tt) w refl entry refl (is_done entry) refl (sym (ap is_done u)) _ (ap (λ (z : Result ⊤ Refusal). replaced z [] s) u)
+        go (Err (Rule n)) w u = whole_broken s ws y x f by at (Err (Rule n)) w (Rule n) refl _ (ap (λ (z : Result ⊤ Refusal). replaced z [] s) u)
+
+    pub entry_allowed : {z : ⊤} → a ≡ Ok z → (broken_rule s ≡ Ok tt) × (is_done entry ≡ true)
+    unfolding on_sound is_done
+    entry_allowed {z} q = go (broken_rule s) (sym q ∙ h)
+      where
+        go : (v : Result ⊤ Unsound) → ◌≡◌ {A = Result ⊤ Refusal} (Ok z) (by_verdict v (λ n. Err (UnsoundState n)) entry) → (v ≡ Ok tt) × (is_done entry ≡ true)
+        go (Ok _) u = (refl, sym (ap is_done u))
+        go (Err (Rule n)) u = absurd (cc)

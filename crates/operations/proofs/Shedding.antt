@@ -18,11 +18,10 @@ use Rattle.state.specs.declared.LockState.{LockState}
 use Rattle.state.specs.Locks.{has_id_d, blank_defunct}
 use Rattle.state.specs.Model.{model_of, state_of, Tidy}
 use Rattle.state.proofs.Laws.{active_count, active_in_lem, defunct_count}
-use Rattle.rules.specs.declared.Verdict.TheVariants.{Sound}
+use Rattle.std.specs.Prelude.{Ok, Err}
 use Rattle.rules.specs.Rules.{broken_rule}
 use Rattle.lookups.proofs.Verdicts.{on_sound_lem}
-use Rattle.operations.specs.declared.answers.Acknowledgement.TheVariants as acknowledgement
-use Rattle.operations.specs.declared.answers.DefunctExpiry.TheVariants as expiry
+use Rattle.operations.specs.declared.answers.StateRefusal.TheVariants.{RevisionOverflow}
 use Rattle.operations.specs.declared.answers.Shed.{Shed}
 use Rattle.operations.specs.Defuncts.{remove_d, remove_all}
 use Rattle.operations.specs.Checks.{last_revision, at_last_lem}
@@ -70,23 +69,23 @@ module _ (s : LockState) (t : Tidy s) (l : List DefunctLock) (x : LockState) (q 
   left_next h = rw (ne_eqb s.revision last_revision (before_last h)) (left (x.revision + 1) ∙ ap (λ (n : ℕ). state_of (with_defunct (model_of s) (n + 1) l)) same)
 
 -- ---- by the tests of a sound state
-module _ (s : LockState) (w : broken_rule s ≡ Sound) where
+module _ (s : LockState) (w : broken_rule s ≡ Ok tt) where
   module _ (i : LockId) (b : Bool) (e : b ≡ any (has_id_d i) (model_of s).defunct) where
-    pub absent : b ≡ false → acknowledged acknowledgement.Absent s ≡ acknowledge_on s i
+    pub absent : b ≡ false → acknowledged (Ok false) s ≡ acknowledge_on s i
     unfolding acknowledge_on
-    absent f = ap (λ (c : Bool). cond c (acknowledged_to s (state_of (shed_in (model_of s) (remove_d i (model_of s).defunct)))) (acknowledged acknowledgement.Absent s)) (sym f ∙ e) ∙ on_sound_lem s _ _ (broken_rule s) refl w
+    absent f = ap (λ (c : Bool). cond c (acknowledged_to s (state_of (shed_in (model_of s) (remove_d i (model_of s).defunct)))) (acknowledged (Ok false) s)) (sym f ∙ e) ∙ on_sound_lem s _ _ (broken_rule s) refl w
 
     -- n is the state that is left
     module _ (f : b ≡ true) (r : Ready s) (n : LockState) (h : n ≡ state_of (shed_in (model_of s) (remove_all (filter (has_id_d i) (model_of s).defunct) (model_of s).defunct))) where
       there : acknowledged_to s n ≡ acknowledge_on s i
       unfolding acknowledge_on
-      there = ap (λ (c : Bool). cond c (acknowledged_to s n) (acknowledged acknowledgement.Absent s)) (sym f ∙ e) ∙ rw (h, splice_all i (model_of s).defunct r.order) (on_sound_lem s _ _ (broken_rule s) refl w)
+      there = ap (λ (c : Bool). cond c (acknowledged_to s n) (acknowledged (Ok false) s)) (sym f ∙ e) ∙ rw (h, splice_all i (model_of s).defunct r.order) (on_sound_lem s _ _ (broken_rule s) refl w)
 
-      pub there_last : s.revision ≡ last_revision → acknowledged acknowledgement.RevisionOverflow n ≡ acknowledge_on s i
+      pub there_last : s.revision ≡ last_revision → acknowledged (Err RevisionOverflow) n ≡ acknowledge_on s i
       unfolding acknowledged_to told_acknowledge at_last_lem
       there_last g = rw (eq-eqb s.revision last_revision g) at there
 
-      pub there_next : (s.revision ≡ last_revision → ⊥) → acknowledged acknowledgement.Done n ≡ acknowledge_on s i
+      pub there_next : (s.revision ≡ last_revision → ⊥) → acknowledged (Ok true) n ≡ acknowledge_on s i
       unfolding acknowledged_to told_acknowledge at_last_lem
       there_next g = rw (ne_eqb s.revision last_revision g) at there
 
@@ -99,7 +98,7 @@ module _ (s : LockState) (w : broken_rule s ≡ Sound) where
     unfolding expire_defunct_on
     none_lapsed f =
         let g : any (lapsed now) (model_of s).defunct ≡ false = none_kept (lapsed now) (model_of s).defunct (omega (arith, count)) in
-        rw (← on_sound_lem s _ _ (broken_rule s) refl w, g, e) (ap (λ (l : List LockId). shed expiry.Done l s) (no_ids (lapsed_of now (model_of s)) (omega (arith, count))))
+        rw (← on_sound_lem s _ _ (broken_rule s) refl w, g, e) (ap (λ (l : List LockId). shed (Ok tt) l s) (no_ids (lapsed_of now (model_of s)) (omega (arith, count))))
       where
         no_ids : (l : List DefunctLock) → length l ≡ 0 → ids_of_entries l ≡ []
         no_ids [] z = refl
@@ -112,7 +111,7 @@ module _ (s : LockState) (w : broken_rule s ≡ Sound) where
           let k : any (lapsed now) (model_of s).defunct ≡ true = some_kept (lapsed now) (model_of s).defunct (λ z. omega (arith, count)) in
           rw (← on_sound_lem s _ _ (broken_rule s) refl w, k, h)
 
-      pub lapsed_last : s.revision ≡ last_revision → shed expiry.RevisionOverflow [] n ≡ expire_defunct_on s now
+      pub lapsed_last : s.revision ≡ last_revision → shed (Err RevisionOverflow) [] n ≡ expire_defunct_on s now
       unfolding shed_to at_last_lem
       lapsed_last g = rw (eq-eqb s.revision last_revision g) at some_lapsed
 

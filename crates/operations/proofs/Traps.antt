@@ -24,8 +24,9 @@ use Rattle.state.specs.Locks.{akey, is_vehicle, is_group, ecu_in, scope_code, sa
 use Rattle.state.specs.Model.{Model, fits, state_of}
 use Rattle.rules.specs.Rules.{zero_id, zero_set, zero_lock, is_blank_a, is_blank_d, blanks, in_order, neat_l, neat_a, neat_d, neat, rule0, rule1, rule2, rule3, rule4, rule5, rule6, rule7, clash, rule8, meets_none, rule9, broken_rule}
 use Rattle.lookups.specs.Reads.{on_sound, on_scope, narrow, covers_defunct}
-use Rattle.operations.specs.declared.answers.Answer.TheVariants as answer
-use Rattle.operations.specs.declared.answers.Acknowledgement.TheVariants as acknowledgement
+use Rattle.std.specs.Prelude.{Ok, Err}
+use Rattle.operations.specs.declared.answers.Refusal.TheVariants.{RevisionOverflow}
+use Rattle.operations.specs.declared.answers.StateRefusal.TheVariants as unsound
 use Rattle.operations.specs.Answers.{is_done, refuse_if, and_then}
 use Rattle.operations.specs.Defuncts.{redirect, other, remove_d, superseded, supersede, to_defunct}
 use Rattle.operations.specs.Trees.{child_of, in_tree, tree_parts, root_parts, roots_parts}
@@ -79,7 +80,7 @@ unfolding roots_parts root_parts tree_parts child_of in_tree narrow has_id key l
 every_root = refl
 
 -- ---- one active lock, no defunct one, and room for just that: a replacement whose entry is superseded is done
-pub room_at_the_end : judge_replace (record { active = 1; defunct = 0 }) (record { revision = 1; active = ecu 1 ∷ []; defunct = [] }) (0 ∷ 1 ∷ []) (ecu 2) 0 0 ≡ answer.Done
+pub room_at_the_end : judge_replace (record { active = 1; defunct = 0 }) (record { revision = 1; active = ecu 1 ∷ []; defunct = [] }) (0 ∷ 1 ∷ []) (ecu 2) 0 0 ≡ Ok tt
 unfolding judge_replace check_list check_active check_id check_holder check_scope check_parent_active check_parent_vehicle check_parent_owner check_parent_cover check_clear check_revision check_cover check_room replaced_in entered_of orphan adopt nest fits roots_parts root_parts tree_parts child_of in_tree narrow has_id has_id_d key listed_in same_id before_id odd_words missing on_scope same_scope scope_code conflicts overlap within is_vehicle is_group ecu_in covers in_set word_of at_last_lem supersede superseded covers_defunct to_defunct remove_d redirect other and_then refuse_if is_done ◌and◌ ◌or◌ ◌imp◌ non any_below all_below
 room_at_the_end = refl
 
@@ -92,11 +93,11 @@ last =
       defunct = record { lock = (ecu 1).lock; target = id_of 2; expires = 100; broken = 0; breaker = 0; holder = 1 } ∷ [];
     }
 
-pub not_undone : acknowledge_on (state_of last) (id_of 1) ≡ record { told = acknowledgement.RevisionOverflow; state = state_of (record { revision = last_revision; active = []; defunct = [] }) }
+pub not_undone : acknowledge_on (state_of last) (id_of 1) ≡ record { told = Err unsound.RevisionOverflow; state = state_of (record { revision = last_revision; active = []; defunct = [] }) }
 unfolding acknowledge_on acknowledged_to told_acknowledge shed_in at_last_lem remove_d redirect other has_id_d key on_sound broken_rule rule0 rule1 rule2 rule3 rule4 rule5 rule6 rule7 rule8 rule9 meets_none clash blanks in_order neat neat_a neat_d neat_l is_blank_a is_blank_d zero_lock zero_id zero_set is_vehicle blank_active blank_defunct overlap within in_set word_of same_scope scope_code any_below all_below ◌and◌ ◌or◌ ◌imp◌ non
 not_undone = refl
 
 -- ---- a vehicle lock that covers nothing over an ECU lock, at the last revision: 8, though 11.4 holds too
-pub revision_first : judge_vehicle (record { active = 64; defunct = 128 }) (record { revision = last_revision; active = ecu 1 ∷ []; defunct = [] }) (bare 2) (0 ∷ 1 ∷ []) ≡ answer.RevisionOverflow
+pub revision_first : judge_vehicle (record { active = 64; defunct = 128 }) (record { revision = last_revision; active = ecu 1 ∷ []; defunct = [] }) (bare 2) (0 ∷ 1 ∷ []) ≡ Err RevisionOverflow
 unfolding judge_vehicle check_list check_root check_active check_free check_listed check_id check_scope check_revision check_owner check_cover check_child check_room vehicle_in inserted_in adopt nest fits supersede superseded covers_defunct has_id has_id_d key listed_in same_id before_id odd_words missing settled_lock on_scope same_scope scope_code is_vehicle within in_set word_of at_last_lem and_then refuse_if is_done ◌and◌ ◌or◌ ◌imp◌ non all_below
 revision_first = refl

@@ -3,12 +3,12 @@
 -- The lists in their places, as the code passes them from function to function; places in them; checks made in one go; the
 -- parts of a replacement and of an expiry.
 use Rattle.std.specs.Prelude.{Bool, true, false, cond, List, [], ◌∷◌, ◌++◌, map, ◌≡◌, ℕ, zero, suc, ◌+◌, ◌*◌, ◌≤◌, ◌<◌, eqb, ltb, length, get_or, take}
-use Rattle.std.proofs.Math.Option.{Option, none, some}
+use Rattle.std.specs.Prelude.{Option, None, Some}
 use Rattle.lists.specs.Tests.{non, Yes}
-use Rattle.lists.specs.Lists.{any, filter, Mem, ascending, insert_by}
+use Rattle.lists.specs.Lists.{any, find, filter, Mem, ascending, insert_by}
 use Rattle.lists.specs.Places.{in_places, leading}
 use Rattle.ids.specs.declared.LockId.{LockId}
-use Rattle.ids.specs.Order.{key, no_id}
+use Rattle.ids.specs.Order.{key, no_id, before_id}
 use Rattle.ids.specs.Words.{ascending_ids}
 use Rattle.coverage.specs.Coverage.{within}
 use Rattle.state.specs.declared.ActiveLock.{ActiveLock}
@@ -17,24 +17,32 @@ use Rattle.state.specs.declared.LockState.{LockState}
 use Rattle.state.specs.Locks.{is_vehicle, has_id, akey, dkey, blank_active, blank_defunct}
 use Rattle.state.specs.Model.{Model, model_of, Limits, full, Tidy}
 use Rattle.rules.specs.Rules.{find_d, rule9, broken_rule, is_sound}
-use Rattle.rules.specs.Code.{key_at, Sought, Sorted, Entries}
-use Rattle.lookups.specs.Reads.{narrow, on_scope}
-use Rattle.operations.specs.declared.answers.Answer.{Answer}
-use Rattle.operations.specs.declared.answers.Answer.TheVariants.{Done, ParentNotFound, ParentNotVehicle, OtherOwner, NotCovered, Invariant}
-use Rattle.operations.specs.declared.answers.Replaced.{Replaced}
-use Rattle.operations.specs.declared.checks.Seen.{Seen}
-use Rattle.operations.specs.declared.trees.Places.{Places}
+use Rattle.lookups.specs.Reads.{on_sound, narrow}
+use Rattle.std.specs.Prelude.{Result, Ok, Err, ⊤}
+use Rattle.operations.specs.declared.answers.Refusal.{Refusal}
+use Rattle.operations.specs.declared.answers.Refusal.TheVariants.{ParentNotFound, ParentNotVehicle, OtherOwner, NotCovered, Invariant, UnsoundState}
+use Rattle.operations.specs.declared.answers.RenewalRefusal.{RenewalRefusal}
+use Rattle.operations.specs.declared.answers.RenewalRefusal.TheVariants as renewal
+use Rattle.operations.specs.declared.answers.DeletionRefusal.{DeletionRefusal}
+use Rattle.operations.specs.declared.answers.DeletionRefusal.TheVariants as deletion
+use Rattle.operations.specs.declared.answers.StateRefusal.{StateRefusal}
+use Rattle.operations.specs.declared.answers.StateRefusal.TheVariants as unsound
+use Rattle.operations.specs.declared.answers.Expiration.{Expiration}
+use Rattle.operations.specs.declared.answers.Expiration.TheVariants.{Stale, NotDue}
+use Rattle.operations.specs.Answers.{Replaced, DefunctsExpired}
 use Rattle.operations.specs.declared.trees.Split.{Split}
 use Rattle.operations.specs.declared.defuncts.Table.{Table}
+use Rattle.operations.specs.declared.defuncts.Gone.{Gone}
 use Rattle.operations.specs.declared.entering.Ledger.{Ledger}
 use Rattle.operations.specs.Trees.{child_of, is_listed, Parts}
 use Rattle.operations.specs.Answers.{refuse_if, and_then, first_refusal}
 use Rattle.operations.specs.Defuncts.{redirect}
-use Rattle.operations.specs.Checks.{parent_of, check_id, check_scope, check_clear, check_revision, check_room, check_active, check_listed, check_child, check_holder, conflicts}
+use Rattle.operations.specs.Checks.{parent_of, check_id, check_scope, check_clear, check_revision, check_room, check_active, check_listed, check_child, check_holder, at_last_lem}
 use Rattle.operations.specs.Insert.{inserted_in}
+use Rattle.operations.specs.Renew.{judge_renew}
+use Rattle.operations.specs.Acknowledge.{shed}
 use Rattle.operations.specs.Vehicle.{adopt}
 use Rattle.operations.specs.Replace.{orphan, entered_of, replaced, settled_replace}
-use Rattle.operations.specs.declared.answers.DefunctExpiry.TheVariants as expiry
 use Rattle.operations.specs.declared.answers.Shed.{Shed}
 
 module _ {A : Type 0} where
@@ -77,14 +85,14 @@ picks zero r a = child_of r a
 picks (suc zero) r a = narrow r a
 picks (suc (suc n)) r a = has_id r.lock.id a
 
-abbrev pub parts_of : Split → Parts
+abbrev pub parts_of : Split ActiveLock → Parts
 parts_of s = record { kept = take s.left s.kept; gone = take s.gone s.removed }
 
-abbrev pub split_of : Parts → Split
+abbrev pub split_of : Parts → Split ActiveLock
 split_of m = record { left = length m.kept; kept = in_places 64 blank_active m.kept; gone = length m.gone; removed = in_places 64 blank_active m.gone }
 
 -- blanks after both lists, which together fit
-pub record Cut (s : Split) : Type 0 where
+pub record Cut (s : Split ActiveLock) : Type 0 where
   pub room : s.left + s.gone ≤ 64
   pub same : split_of (parts_of s) ≡ s
 
@@ -123,22 +131,27 @@ abbrev pub cut_halves : List ActiveLock → List ActiveLock → Halves → Halve
 cut_halves l [] h = h
 cut_halves l (r ∷ rs) h = cut_halves l rs (root_halves l r h)
 
-abbrev pub halves_of : Places → Halves
-halves_of s = record { kept = take s.left s.kept; gone = take s.gone s.went }
+abbrev pub halves_of : Split ℕ → Halves
+halves_of s = record { kept = take s.left s.kept; gone = take s.gone s.removed }
 
-abbrev pub places_of : Halves → Places
-places_of h = record { left = length h.kept; kept = in_places 64 0 h.kept; gone = length h.gone; went = in_places 64 0 h.gone }
+abbrev pub places_of : Halves → Split ℕ
+places_of h = record { left = length h.kept; kept = in_places 64 0 h.kept; gone = length h.gone; removed = in_places 64 0 h.gone }
 
--- every place is one of 64
-abbrev pub Low : List ℕ → Type 0
-Low ks = (j : ℕ) → Mem j ks → j < 64
+-- every place is one of the first n
+abbrev pub Low : ℕ → List ℕ → Type 0
+Low n ks = (j : ℕ) → Mem j ks → j < n
 
-pub record Sorting (s : Places) : Type 0 where
+-- what is told of each is what the test p says
+abbrev pub Tells : {A : Type 0} → (A → Bool → Type 0) → (A → Bool) → Type 0
+Tells {A} told p = (a : A) (b : Bool) → told a b → b ≡ p a
+
+-- places of n locks; those that stay rise
+pub record Sorting (n : ℕ) (s : Split ℕ) : Type 0 where
   pub room : s.left + s.gone ≤ 64
   pub same : places_of (halves_of s) ≡ s
-  pub stays : Low (halves_of s).kept
+  pub stays : Low n (halves_of s).kept
   pub rises : Yes (ascending (λ j. j) (halves_of s).kept)
-  pub goes : Low (halves_of s).gone
+  pub goes : Low n (halves_of s).gone
 
 -- ---- the table of defunct entries
 abbrev pub entries_of : Table → List DefunctLock
@@ -171,40 +184,45 @@ hand_on goes (suc i) l = hand_step (get_or goes i false) i (hand_on goes i l)
 
 -- ---- checks that the code makes in one function (proofs/Bundles.antt joins them to the definitions' lines)
 -- of the lock and its parent: 5, 11.3, 11.4
-unfoldable pub check_parent : ActiveLock → ActiveLock → Answer
+unfoldable pub check_parent : ActiveLock → ActiveLock → Result ⊤ Refusal
 check_parent x p =
-    refuse_if (non (is_vehicle p.lock.scope)) (ParentNotVehicle x.parent)
-    (refuse_if (non (eqb p.lock.subject x.lock.subject)) (OtherOwner x.lock.id x.parent)
-    (refuse_if (non (within x.lock.coverage p.lock.coverage)) (NotCovered x.lock.id x.parent)
-    Done))
+    refuse_if (non (is_vehicle p.lock.scope)) (Err (ParentNotVehicle x.parent))
+    (refuse_if (non (eqb p.lock.subject x.lock.subject)) (Err (OtherOwner x.lock.id x.parent))
+    (refuse_if (non (within x.lock.coverage p.lock.coverage)) (Err (NotCovered x.lock.id x.parent))
+    (Ok tt)))
 
-abbrev pub check_found : ActiveLock → Option ActiveLock → Answer
-check_found x none = ParentNotFound x.parent
-check_found x (some p) = check_parent x p
+abbrev pub check_found : ActiveLock → Option ActiveLock → Result ⊤ Refusal
+check_found x None = Err (ParentNotFound x.parent)
+check_found x (Some p) = check_parent x p
 
 -- 4, 5, 11.3, 11.4
-unfoldable pub check_nesting : List ActiveLock → ActiveLock → Answer
-check_nesting l x = cond x.child (check_found x (parent_of l x)) Done
+unfoldable pub check_nesting : List ActiveLock → ActiveLock → Result ⊤ Refusal
+check_nesting l x = cond x.child (check_found x (parent_of l x)) (Ok tt)
 
 -- 2, 4, 5, 11.3, 11.4, 7
-unfoldable pub check_insert : List ActiveLock → ActiveLock → Answer
+unfoldable pub check_insert : List ActiveLock → ActiveLock → Result ⊤ Refusal
 check_insert l x = and_then (check_scope l x) (and_then (check_nesting l x) (check_clear l x))
 
 -- 3, 1, 6
-unfoldable pub check_entry : List ActiveLock → List DefunctLock → List ℕ → ActiveLock → Answer
+unfoldable pub check_entry : List ActiveLock → List DefunctLock → List ℕ → ActiveLock → Result ⊤ Refusal
 check_entry l t ws x = and_then (first_refusal (check_active l) (ascending_ids ws)) (and_then (check_id l t x) (check_holder l ws x))
 
 -- insert_active's
-unfoldable pub judge_bundled : Limits → Model → ActiveLock → Answer
+unfoldable pub judge_bundled : Limits → Model → ActiveLock → Result ⊤ Refusal
 judge_bundled k m x = and_then (check_id m.active m.defunct x) (and_then (check_insert m.active x) (and_then (check_revision m.revision) (check_room k (inserted_in m x))))
 
 -- an id that names a child, or a root: 3 and 11.2, or 3 alone
-unfoldable pub check_named : Bool → List ActiveLock → LockId → Answer
+unfoldable pub check_named : Bool → List ActiveLock → LockId → Result ⊤ Refusal
 check_named child l i = cond child (check_listed l i) (check_active l i)
+
+-- whether it is lower than the lowest that was refused so far
+unfoldable pub is_lower : LockId → Option LockId → Bool
+is_lower id None = true
+is_lower id (Some low) = before_id id low
 
 -- ---- the closing check, as the code makes it: of the next state
 unfoldable pub replaced_by : LockState → List ActiveLock → LockState → Replaced
-replaced_by s g n = cond (is_sound (broken_rule n)) (replaced Done g n) (replaced Invariant [] s)
+replaced_by s g n = cond (is_sound (broken_rule n)) (replaced (Ok tt) g n) (replaced (Err Invariant) [] s)
 
 -- ---- a replacement once the trees are out: p are the locks that stay and those that went
 unfoldable pub left_in : Model → Parts → ActiveLock → ℕ → ℕ → Model
@@ -215,7 +233,7 @@ left_in m p x by at =
       defunct = entered_of x by at p.gone m.defunct;
     }
 
-unfoldable pub judge_left : Model → Parts → ActiveLock → ℕ → ℕ → Answer
+unfoldable pub judge_left : Model → Parts → ActiveLock → ℕ → ℕ → Result ⊤ Refusal
 judge_left m p x by at =
     and_then (check_insert p.kept x)
     (and_then (check_revision m.revision)
@@ -225,82 +243,94 @@ judge_left m p x by at =
 unfoldable pub left_on : LockState → Parts → ActiveLock → ℕ → ℕ → Replaced
 left_on s p x by at = settled_replace full (judge_left (model_of s) p x by at) s p.gone (left_in (model_of s) p x by at)
 
--- ---- places, and entries that have expired
--- how many locks stand before the one with this id; all of them where there is none
-abbrev pub place_in : LockId → List ActiveLock → ℕ
-place_in i l = leading (λ a. non (has_id i a)) l 0
-
+-- ---- entries that have expired
 -- expire_defunct: the list of ids that is told
 abbrev pub ids_told : List LockId → Shed
-ids_told l = record { answer = expiry.Done; gone = length l; ids = in_places 128 no_id l }
+ids_told l = record { answer = Ok tt; gone = length l; ids = in_places 128 no_id l }
 
 -- ---- defunct entries that go in a single pass: each that stays follows the targets of those that go
 -- what stands at a place of a list; none past its end
 abbrev pub entry_at : List DefunctLock → ℕ → Option DefunctLock
-entry_at gone i = cond (ltb i (length gone)) (some (get_or gone i blank_defunct)) none
+entry_at gone i = cond (ltb i (length gone)) (Some (get_or gone i blank_defunct)) None
 
 -- the last entry that is met in at most n turns, from the one that is found
 unfoldable pub last_from : ℕ → List DefunctLock → Option DefunctLock → Option DefunctLock → Option DefunctLock
 last_from zero gone found last = last
-last_from (suc n) gone none last = last
-last_from (suc n) gone (some e) last = last_from n gone (find_d gone (key e.target)) (some e)
+last_from (suc n) gone None last = last
+last_from (suc n) gone (Some e) last = last_from n gone (find_d gone (key e.target)) (Some e)
 
 abbrev pub handed_on : Option DefunctLock → DefunctLock → DefunctLock
-handed_on none d = d
-handed_on (some e) d = took_over e d
+handed_on None d = d
+handed_on (Some e) d = took_over e d
 
 -- what is left of an entry where those of the list go
 unfoldable pub landed : List DefunctLock → DefunctLock → DefunctLock
-landed gone d = handed_on (last_from (length gone) gone (find_d gone (key d.target)) none) d
+landed gone d = handed_on (last_from (length gone) gone (find_d gone (key d.target)) None) d
 
--- columns of the entries that go
-pub record Rows (gone : List DefunctLock) (n : ℕ) (ids targets holders : List ℕ) : Type 0 where
-  pub entries : Entries gone n ids targets
-  pub at_holder : (i : ℕ) → i < n → get_or holders i 0 ≡ (get_or gone i blank_defunct).holder
+-- what an entry that goes leaves to those that point at it
+abbrev pub left_by : DefunctLock → Gone
+left_by d = record { id = d.lock.id; target = d.target; holder = d.holder }
 
--- and of the places of their targets among them
+abbrev pub gone_key : Gone → ℕ
+gone_key g = key g.id
+
+-- entries of a state that was tested
+pub record Settled (l : List DefunctLock) : Type 0 where
+  pub few : length l ≤ 128
+  pub order : Yes (ascending dkey l)
+  pub free : rule9 (record { revision = 0; active = []; defunct = l }) ≡ true
+
+-- the places of the targets of those that go among them
 pub record Led (gone : List DefunctLock) (n : ℕ) (next : List ℕ) : Type 0 where
   pub long : length gone ≡ n
   pub at_next : (i : ℕ) → i < n → entry_at gone (get_or next i 0) ≡ find_d gone (key (get_or gone i blank_defunct).target)
 
-pub record Stepped (ids targets next holders : List ℕ) (n : ℕ) : Type 0 where
-  pub ids_fit : 2 * n ≤ length ids
-  pub targets_fit : 2 * n ≤ length targets
-  pub next_fit : n ≤ length next
-  pub holders_fit : n ≤ length holders
-  pub sorted : Sorted (key_at ids) n
-  pub sought : (i : ℕ) → i < n → Sought (key_at ids) n (key_at targets i) (get_or next i 0)
-
 -- the state with other defunct entries
 abbrev pub with_entries : LockState → List DefunctLock → LockState
 with_entries s l = record { revision = s.revision; active = s.active; actives = s.actives; defunct = in_places 128 blank_defunct l; defuncts = length l }
-
--- ---- what one walk over the active locks sees of a new one: whether its id is there and its scope is held; the places of its
--- parent and of the first lock that it conflicts with, the count where there is none
-abbrev pub seen_in : ActiveLock → List ActiveLock → Seen
-seen_in x l =
-    record {
-      same = any (has_id x.lock.id) l;
-      held = any (on_scope x.lock.scope) l;
-      parent = place_in x.parent l;
-      clash = leading (λ a. non (conflicts x a)) l 0;
-    }
 
 -- ---- locks that are entered as defunct (src/entering.rt): their number, and the entries where they fit
 pub record Listed (r : Ledger) (l : List DefunctLock) : Type 0 where
   pub count : r.count ≡ length l
   pub same : length l ≤ 128 → r.list ≡ in_places 128 blank_defunct l
 
--- ---- the steps of a tree's removal by their marks (src/trees.rt)
-abbrev pub marked : List Bool → ℕ → Bool
-marked marks j = get_or marks j false
+-- ---- the trees of the roots whose id is listed
+abbrev pub roots_halves : List ℕ → List ActiveLock → Halves
+roots_halves ids l = cut_halves l (filter (is_listed ids) l) (start_halves (length l))
 
-abbrev pub marked_tree : List Bool → List Bool → List Bool → Halves → Halves
-marked_tree children narrow root h = take_halves (marked root) (take_halves (marked narrow) (take_halves (marked children) h))
+-- ---- the state is tested, and then: what an operation's inner function tells
+abbrev pub on_tested : {A : Type 0} → LockState → Result A Refusal → Result A Refusal
+on_tested s a = on_sound s (λ n. Err (UnsoundState n)) a
 
-unfoldable pub marked_root : List Bool → List Bool → List Bool → Halves → Halves
-marked_root children narrow root h = cond (any (marked root) h.kept) (marked_tree children narrow root h) h
+-- the closing check
+unfoldable pub closing : LockState → Result ⊤ Refusal
+closing n = cond (is_sound (broken_rule n)) (Ok tt) (Err Invariant)
 
--- after the roots whose id is listed
-abbrev pub roots_halves : List ℕ → List ActiveLock → ℕ → Halves
-roots_halves ids l n = cut_halves l (filter (is_listed ids) (take n l)) (start_halves n)
+-- renew
+unfoldable pub renewable : LockState → LockId → ℕ → ℕ → Result ⊤ RenewalRefusal
+renewable s id expires now = on_sound s (λ n. Err (renewal.UnsoundState n)) (judge_renew (model_of s) id expires now)
+
+-- delete and begin_expiration: the lock that goes with its tree
+abbrev pub deletable_found : LockState → LockId → Option ActiveLock → Result ActiveLock DeletionRefusal
+deletable_found s id None = Err (deletion.ActiveLockNotFound id)
+deletable_found s id (Some root) = cond (at_last_lem s.revision) (Err deletion.RevisionOverflow) (Ok root)
+
+unfoldable pub deletable : LockState → LockId → Result ActiveLock DeletionRefusal
+deletable s id = on_sound s (λ n. Err (deletion.UnsoundState n)) (deletable_found s id (find (has_id id) (model_of s).active))
+
+abbrev pub due_found : LockState → ℕ → Option ActiveLock → Result ActiveLock (Result Expiration StateRefusal)
+due_found s now None = Err (Ok Stale)
+due_found s now (Some root) = cond (ltb now root.expires) (Err (Ok (NotDue root.expires))) (cond (at_last_lem s.revision) (Err (Err unsound.RevisionOverflow)) (Ok root))
+
+unfoldable pub due : LockState → LockId → ℕ → Result ActiveLock (Result Expiration StateRefusal)
+due s id now = on_sound s (λ n. Err (Err (unsound.UnsoundState n))) (due_found s now (find (has_id id) (model_of s).active))
+
+-- expire_defunct: how many entries went, their ids, and the state without them
+abbrev pub expired_by : List LockId → LockState → Result ℕ StateRefusal → DefunctsExpired
+expired_by ids s (Ok gone) = record { told = record { answer = Ok tt; gone = gone; ids = ids }; state = s }
+expired_by ids s (Err r) = shed (Err r) [] s
+
+-- commit_replacement: what is done, or what refuses
+abbrev pub replaced_or : LockState → Result Replaced Refusal → Replaced
+replaced_or s (Ok done) = done
+replaced_or s (Err r) = replaced (Err r) [] s

@@ -1,6 +1,6 @@
 -- Defunct entries that go and that come.
 use Rattle.std.specs.Prelude.{Bool, cond, List, [], ◌∷◌, map, ℕ, eqb}
-use Rattle.std.proofs.Math.Option.{Option, none, some}
+use Rattle.std.specs.Prelude.{Option, None, Some}
 use Rattle.lists.specs.Tests.{◌and◌, non}
 use Rattle.lists.specs.Lists.{find, filter, insert_by}
 use Rattle.ids.specs.declared.LockId.{LockId}
@@ -24,8 +24,8 @@ abbrev pub drop_entry : DefunctLock → List DefunctLock → List DefunctLock
 drop_entry gone defunct = map (redirect gone) (filter (other gone) defunct)
 
 abbrev pub drop_found : Option DefunctLock → List DefunctLock → List DefunctLock
-drop_found none defunct = defunct
-drop_found (some gone) defunct = drop_entry gone defunct
+drop_found None defunct = defunct
+drop_found (Some gone) defunct = drop_entry gone defunct
 
 -- the entry with this id goes, where there is one
 unfoldable pub remove_d : LockId → List DefunctLock → List DefunctLock

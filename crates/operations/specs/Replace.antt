@@ -14,9 +14,10 @@ use Rattle.state.specs.Locks.{akey, is_vehicle, has_id, normal, blank_active}
 use Rattle.state.specs.Model.{Model, model_of, state_of, Limits, full}
 use Rattle.rules.specs.Rules.{sound}
 use Rattle.lookups.specs.Reads.{on_sound}
-use Rattle.operations.specs.declared.answers.Answer.{Answer}
-use Rattle.operations.specs.declared.answers.Answer.TheVariants.{Done, Invariant, UnsoundState}
-use Rattle.operations.specs.declared.answers.Replaced.{Replaced}
+use Rattle.std.specs.Prelude.{Result, Ok, Err, ⊤}
+use Rattle.operations.specs.declared.answers.Refusal.{Refusal}
+use Rattle.operations.specs.declared.answers.Refusal.TheVariants.{Invariant, UnsoundState}
+use Rattle.operations.specs.Answers.{Replaced}
 use Rattle.operations.specs.Answers.{is_done, and_then, first_refusal}
 use Rattle.operations.specs.Defuncts.{to_defunct, enter_all, supersede}
 use Rattle.operations.specs.Trees.{Parts, roots_parts}
@@ -43,7 +44,7 @@ replaced_in m ids new by at =
       defunct = entered_of new by at (cut_of m ids).gone m.defunct;
     }
 
-unfoldable pub judge_replace : Limits → Model → List ℕ → ActiveLock → ℕ → ℕ → Answer
+unfoldable pub judge_replace : Limits → Model → List ℕ → ActiveLock → ℕ → ℕ → Result ⊤ Refusal
 judge_replace limits m ids new by at =
     -- 14
     and_then (check_list ids)
@@ -73,18 +74,18 @@ judge_replace limits m ids new by at =
     (check_room limits (replaced_in m ids new by at)))))))))))))
 
 -- ---- what is left, as for an insertion; the removed locks are listed where it went through
-abbrev pub replaced : Answer → List ActiveLock → LockState → Replaced
+abbrev pub replaced : Result ⊤ Refusal → List ActiveLock → LockState → Replaced
 replaced answer gone state = record { told = record { answer = answer; gone = length gone; removed = in_places 64 blank_active gone }; state = state }
 
 unfoldable pub closed_replace : Limits → LockState → List ActiveLock → Model → Replaced
-closed_replace limits state gone next = cond (sound limits next) (replaced Done gone (state_of next)) (replaced Invariant [] state)
+closed_replace limits state gone next = cond (sound limits next) (replaced (Ok tt) gone (state_of next)) (replaced (Err Invariant) [] state)
 
-unfoldable pub settled_replace : Limits → Answer → LockState → List ActiveLock → Model → Replaced
+unfoldable pub settled_replace : Limits → Result ⊤ Refusal → LockState → List ActiveLock → Model → Replaced
 settled_replace limits answer state gone next = cond (is_done answer) (closed_replace limits state gone next) (replaced answer [] state)
 
 unfoldable pub commit_replacement_with : Limits → LockState → List ℕ → ActiveLock → ℕ → ℕ → Replaced
 commit_replacement_with limits state ids lock by at =
-    on_sound state (λ rule. replaced (UnsoundState rule) [] state)
+    on_sound state (λ rule. replaced (Err (UnsoundState rule)) [] state)
     (settled_replace limits (judge_replace limits (model_of state) ids (normal lock) by at) state (cut_of (model_of state) ids).gone (replaced_in (model_of state) ids (normal lock) by at))
 
 unfoldable pub commit_replacement_on : LockState → List ℕ → ActiveLock → ℕ → ℕ → Replaced

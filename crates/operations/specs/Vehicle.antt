@@ -8,9 +8,10 @@ use Rattle.state.specs.declared.LockState.{LockState}
 use Rattle.state.specs.Locks.{normal}
 use Rattle.state.specs.Model.{Model, model_of, Limits, full}
 use Rattle.lookups.specs.Reads.{on_sound}
-use Rattle.operations.specs.declared.answers.Answer.{Answer}
-use Rattle.operations.specs.declared.answers.Answer.TheVariants.{UnsoundState}
-use Rattle.operations.specs.declared.answers.Inserted.{Inserted}
+use Rattle.std.specs.Prelude.{Result, Err, ⊤}
+use Rattle.operations.specs.declared.answers.Refusal.{Refusal}
+use Rattle.operations.specs.declared.answers.Refusal.TheVariants.{UnsoundState}
+use Rattle.operations.specs.Answers.{Inserted}
 use Rattle.operations.specs.Answers.{and_then, first_refusal}
 use Rattle.operations.specs.Trees.{is_listed}
 use Rattle.operations.specs.Checks.{check_list, check_root, check_listed, check_id, check_scope, check_revision, check_child, check_room}
@@ -32,7 +33,7 @@ adopting picks new m = record { revision = m.revision; active = map (adopt picks
 unfoldable pub vehicle_in : Model → ActiveLock → List ℕ → Model
 vehicle_in m new ids = inserted_in (adopting (is_listed ids) new m) new
 
-unfoldable pub judge_vehicle : Limits → Model → ActiveLock → List ℕ → Answer
+unfoldable pub judge_vehicle : Limits → Model → ActiveLock → List ℕ → Result ⊤ Refusal
 judge_vehicle limits m new ids =
     -- 14
     and_then (check_list ids)
@@ -53,7 +54,7 @@ judge_vehicle limits m new ids =
 
 unfoldable pub insert_vehicle_with : Limits → LockState → ActiveLock → List ℕ → Inserted
 insert_vehicle_with limits state lock ids =
-    on_sound state (λ rule. inserted (UnsoundState rule) state)
+    on_sound state (λ rule. inserted (Err (UnsoundState rule)) state)
     (settled_insert limits (judge_vehicle limits (model_of state) (normal lock) ids) state (vehicle_in (model_of state) (normal lock) ids))
 
 unfoldable pub insert_vehicle_on : LockState → ActiveLock → List ℕ → Inserted

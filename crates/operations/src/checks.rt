@@ -1,445 +1,331 @@
 // The checks of insertions and of a replacement, in the order of specs/Checks.antt, each with the number that it refuses
-// by. Lists are the first n places of an array.
+// by.
 // SPDX-License-Identifier: Apache-2.0
-ghost use Rattle.std.specs.Prelude.{cond, ◌≡◌, ◌≤◌, eqb, take};
-ghost use Rattle.lists.specs.Lists.{any};
+#![tactic(auto, using(lists::proofs::Tests::codes, lists::proofs::Std::any_std), unfolding(crate::specs::Answers::refuse_if, crate::specs::Answers::and_then, crate::specs::Answers::is_done, crate::specs::Checks::check_list, crate::specs::Checks::check_id, crate::specs::Checks::check_scope, crate::specs::Checks::check_clear, crate::specs::Checks::conflicts, crate::specs::Checks::at_last_lem, crate::specs::Checks::check_revision, crate::specs::Checks::check_root, crate::specs::Checks::missing, crate::specs::Checks::check_active, crate::specs::Checks::settled_lock, crate::specs::Checks::check_free, crate::specs::Checks::check_listed, crate::specs::Checks::check_owner, crate::specs::Checks::check_cover, crate::specs::Checks::check_child, crate::specs::Checks::check_holder, crate::specs::Code::check_parent, crate::specs::Code::check_nesting, crate::specs::Code::check_insert, crate::specs::Code::check_named, crate::specs::Code::is_lower))]
+
+ghost use Rattle.std.specs.Prelude.{◌≡◌, eqb, not, ◌&&◌};
+ghost use Rattle.std.specs.List.{list_any};
+ghost use Rattle.lists.specs.Lists.{find, filter};
 ghost use Rattle.lists.specs.Tests.{Yes};
 ghost use Rattle.ids.specs.Words.{ascending_ids};
 ghost use Rattle.state.specs.Locks.{has_id, has_id_d};
-ghost use Rattle.operations.specs.declared.answers.Answer.TheVariants.{Done, NoRoom};
+ghost use Rattle.lookups.specs.Reads.{on_scope};
+ghost use Rattle.std.specs.Prelude.{Ok, Err};
+ghost use Rattle.operations.specs.declared.answers.Refusal.TheVariants.{DuplicateId, DuplicateScope, ActiveLockNotFound, ParentNotFound, ParentNotVehicle, ReplacementScopeConflict, CoverageConflict, RevisionOverflow, NotRootVehicle, BadChild, OtherOwner, NotCovered, NoRoom, BadList};
 ghost use Rattle.operations.specs.Answers.{refuse_if, first_refusal};
-ghost use Rattle.operations.specs.Trees.{in_trees};
-ghost use Rattle.operations.specs.Checks.{check_list, check_id, conflicts, conflict_with, check_revision, check_root, settled_lock, check_active, check_listed, check_child, outside, check_holder};
-ghost use Rattle.operations.specs.Code.{flagged, place_in, check_parent, check_nesting, check_insert, check_named, seen_in};
+ghost use Rattle.operations.specs.Trees.{in_tree, is_listed};
+ghost use Rattle.operations.specs.Checks.{check_list, check_id, check_scope, conflicts, conflict_with, check_clear, check_revision, check_root, settled_lock, check_active, check_listed, check_child, check_holder};
+ghost use Rattle.operations.specs.Code.{check_parent, check_nesting, check_insert, check_named, is_lower};
 
-use crate::answers::Answer;
-use crate::{answers, trees};
-use coverage::Overlap;
+use crate::answers::Refusal;
+use crate::trees;
 use ids::LockId;
-use state::{ActiveLock, DefunctLock, LockState};
+use state::{ActiveLock, DefunctLock, LockState, ScopeKey};
 
 // ---- 14
-pub(crate) fn check_list(list: &[u64]) -> Answer
+pub(crate) fn check_list(list: &[u64]) -> Result<(), Refusal>
     ensures { result ≡ check_list list.now }
 {
     if ids::is_odd(list) {
-        return Answer::BadList;
+        return Err(Refusal::BadList);
     }
-    Answer::Done
+    Ok(())
 }
 
 // ---- 1
-fn id_active(locks: [ActiveLock; LockState::ACTIVE], n: usize, id: LockId) -> bool
-    requires { n ≤ 64 }
-    ensures { result ≡ any (has_id id) (take n locks) }
+// A chain each, of either kind of lock: one function that takes the test would be no shorter.
+fn id_active(locks: &[ActiveLock], id: LockId) -> bool
+    ensures { result ≡ list_any (has_id id) locks.now }
 {
-    let mut i: usize = 0;
-    while i < n {
-        let a = locks[i];
-        i += 1;
-        if state::has_id(id, a) {
-            return true;
-        }
-    }
-    false
+    locks.iter().any(|a| state::has_id(id, *a))
 }
 
-pub(crate) fn id_defunct(entries: [DefunctLock; LockState::DEFUNCT], n: usize, id: LockId) -> bool
-    requires { n ≤ 128 }
-    ensures { result ≡ any (has_id_d id) (take n entries) }
+fn id_defunct(entries: &[DefunctLock], id: LockId) -> bool
+    ensures { result ≡ list_any (has_id_d id) entries.now }
 {
-    let mut i: usize = 0;
-    while i < n {
-        let d = entries[i];
-        i += 1;
-        if state::has_id_defunct(id, d) {
-            return true;
-        }
-    }
-    false
+    entries.iter().any(|d| state::has_id_defunct(id, *d))
 }
 
 pub(crate) fn check_id(
-    locks: [ActiveLock; LockState::ACTIVE],
-    n: usize,
-    entries: [DefunctLock; LockState::DEFUNCT],
-    m: usize,
+    locks: &[ActiveLock],
+    entries: &[DefunctLock],
     new: ActiveLock,
-) -> Answer
-    requires { (n ≤ 64) × (m ≤ 128) }
-    ensures { result ≡ check_id (take n locks) (take m entries) new }
+) -> Result<(), Refusal>
+    ensures { result ≡ check_id locks.now entries.now new }
 {
     let id = new.lock.id;
-    if id_active(locks, n, id) | id_defunct(entries, m, id) {
-        return Answer::DuplicateId(id);
+    if id_active(locks, id) | id_defunct(entries, id) {
+        return Err(Refusal::DuplicateId(id));
     }
-    Answer::Done
+    Ok(())
+}
+
+// ---- 2
+fn is_held(locks: &[ActiveLock], scope: ScopeKey) -> bool
+    ensures { result ≡ list_any (on_scope scope) locks.now }
+{
+    locks.iter().any(|a| lookups::on_scope(scope, *a))
+}
+
+pub(crate) fn check_scope(locks: &[ActiveLock], new: ActiveLock) -> Result<(), Refusal>
+    ensures { result ≡ check_scope locks.now new }
+{
+    if is_held(locks, new.lock.scope) {
+        return Err(Refusal::DuplicateScope);
+    }
+    Ok(())
 }
 
 // ---- 5, 11.3, 11.4
-fn check_parent(new: ActiveLock, parent: ActiveLock) -> Answer
+fn check_parent(new: ActiveLock, parent: ActiveLock) -> Result<(), Refusal>
     ensures { result ≡ check_parent new parent }
 {
     let up = new.parent;
     let id = new.lock.id;
-    let lock = parent.lock;
-    let scope = lock.scope;
-    if !state::is_vehicle(scope) {
-        return Answer::ParentNotVehicle(up);
+    if !state::is_vehicle(parent.lock.scope) {
+        return Err(Refusal::ParentNotVehicle(up));
     }
     if parent.lock.subject != new.lock.subject {
-        return Answer::OtherOwner(id, up);
+        return Err(Refusal::OtherOwner(id, up));
     }
     if !parent.lock.coverage.contains(new.lock.coverage) {
-        return Answer::NotCovered(id, up);
+        return Err(Refusal::NotCovered(id, up));
     }
-    Answer::Done
+    Ok(())
 }
 
-// ---- 4, and then: the parent's place is known
-fn check_nesting(
-    locks: [ActiveLock; LockState::ACTIVE],
-    n: usize,
-    at: usize,
-    new: ActiveLock,
-) -> Answer
-    requires { (n ≤ 64) × (at ≡ place_in new.parent (take n locks)) }
-    ensures { result ≡ check_nesting (take n locks) new }
+// The lock with this id.
+pub(crate) fn lock_with(locks: &[ActiveLock], id: LockId) -> Option<ActiveLock>
+    ensures { result ≡ find (has_id id) locks.now }
+{
+    locks.iter().copied().find(|a| state::has_id(id, *a))
+}
+
+// ---- 4, and then
+fn check_nesting(locks: &[ActiveLock], new: ActiveLock) -> Result<(), Refusal>
+    ensures { result ≡ check_nesting locks.now new }
 {
     if !new.child {
-        return Answer::Done;
+        return Ok(());
     }
-    if n <= at {
-        let up = new.parent;
-        return Answer::ParentNotFound(up);
+    match lock_with(locks, new.parent) {
+        None => Err(Refusal::ParentNotFound(new.parent)),
+        Some(parent) => check_parent(new, parent),
     }
-    let p = locks[at];
-    check_parent(new, p)
 }
 
 // ---- 7
 fn in_conflict(new: ActiveLock, a: ActiveLock) -> bool
     ensures { result ≡ conflicts new a }
 {
-    let lock = new.lock;
-    let scope = lock.scope;
     a.lock.coverage.meets(new.lock.coverage)
         & (a.lock.subject != new.lock.subject)
-        & !state::is_vehicle(scope)
+        & !state::is_vehicle(new.lock.scope)
 }
 
-// A lock that the new one conflicts with, and where the two meet. Locks in conflict overlap, so `Apart` can't come.
-fn conflict_with(new: ActiveLock, a: ActiveLock) -> Answer
+// A lock that the new one conflicts with, and where the two meet. Locks in conflict overlap, so `None` can't come.
+fn conflict_with(new: ActiveLock, a: ActiveLock) -> Result<(), Refusal>
     requires { Yes (conflicts new a) }
     ensures { result ≡ conflict_with new a }
 {
-    let id = a.lock.id;
-    let met = a.lock.coverage.overlaps(new.lock.coverage);
-    match met {
-        Overlap::Apart => Answer::Done,
-        Overlap::Meets(at) => Answer::CoverageConflict(id, at),
+    match a.lock.coverage.overlaps(new.lock.coverage) {
+        None => Ok(()),
+        Some(at) => Err(Refusal::CoverageConflict(a.lock.id, at)),
     }
 }
 
-// ---- one walk over the active locks, and what it sees of a new one
-// Whether its id is there and its scope is held; the places of its parent and of the first lock that it conflicts with, the
-// count where there is none.
-#[derive(Clone, Copy)]
-pub(crate) struct Seen {
-    pub same: bool,
-    pub held: bool,
-    pub parent: usize,
-    pub clash: usize,
-}
-
-fn nearer(here: bool, i: usize, later: usize) -> usize
-    ensures { result ≡ cond here i later }
+// The first lock that the new one conflicts with, which has the lowest id.
+fn clash(locks: &[ActiveLock], new: ActiveLock) -> Option<ActiveLock>
+    ensures { result ≡ find (conflicts new) locks.now }
 {
-    if here {
-        return i;
-    }
-    later
+    locks.iter().copied().find(|a| in_conflict(new, *a))
 }
 
-// From the last lock to the first, so that the first place is the one that stays.
-pub(crate) fn look(locks: [ActiveLock; LockState::ACTIVE], n: usize, new: ActiveLock) -> Seen
-    requires { n ≤ 64 }
-    ensures { result ≡ seen_in new (take n locks) }
+fn check_clear(locks: &[ActiveLock], new: ActiveLock) -> Result<(), Refusal>
+    ensures { result ≡ check_clear locks.now new }
 {
-    let up = new.parent;
-    let lock = new.lock;
-    let scope = lock.scope;
-    let id = lock.id;
-    let mut same = false;
-    let mut held = false;
-    let mut parent = n;
-    let mut clash = n;
-    let mut i = n;
-    while 0 < i {
-        i -= 1;
-        let a = locks[i];
-        same = state::has_id(id, a) | same;
-        held = lookups::on_scope(scope, a) | held;
-        parent = nearer(state::has_id(up, a), i, parent);
-        clash = nearer(in_conflict(new, a), i, clash);
-    }
-    Seen {
-        same,
-        held,
-        parent,
-        clash,
+    match clash(locks, new) {
+        None => Ok(()),
+        Some(other) => conflict_with(new, other),
     }
 }
 
 // ---- 2, 4, 5, 11.3, 11.4, 7
-pub(crate) fn check_seen(
-    locks: [ActiveLock; LockState::ACTIVE],
-    n: usize,
-    seen: Seen,
-    new: ActiveLock,
-) -> Answer
-    requires { (n ≤ 64) × (seen ≡ seen_in new (take n locks)) }
-    ensures { result ≡ check_insert (take n locks) new }
+pub(crate) fn check_insert(locks: &[ActiveLock], new: ActiveLock) -> Result<(), Refusal>
+    ensures { result ≡ check_insert locks.now new }
 {
-    if seen.held {
-        return Answer::DuplicateScope;
-    }
-    let a = check_nesting(locks, n, seen.parent, new);
-    if !answers::is_done(a) {
-        return a;
-    }
-    let at = seen.clash;
-    if n <= at {
-        return Answer::Done;
-    }
-    let other = locks[at];
-    conflict_with(new, other)
-}
-
-pub(crate) fn check_insert(
-    locks: [ActiveLock; LockState::ACTIVE],
-    n: usize,
-    new: ActiveLock,
-) -> Answer
-    requires { n ≤ 64 }
-    ensures { result ≡ check_insert (take n locks) new }
-{
-    let w = look(locks, n, new);
-    check_seen(locks, n, w, new)
+    check_scope(locks, new)?;
+    check_nesting(locks, new)?;
+    check_clear(locks, new)
 }
 
 // ---- 8
-pub(crate) fn check_revision(revision: u64) -> Answer
+pub(crate) fn check_revision(revision: u64) -> Result<(), Refusal>
     ensures { result ≡ check_revision revision }
 {
     if revision == u64::MAX {
-        return Answer::RevisionOverflow;
+        return Err(Refusal::RevisionOverflow);
     }
-    Answer::Done
+    Ok(())
 }
 
 // ---- 13: an insertion adds one active lock and only sheds defunct ones
-pub(crate) fn check_room(n: usize) -> Answer
-    ensures { result ≡ refuse_if (eqb n 64) NoRoom Done }
+pub(crate) fn check_room(n: usize) -> Result<(), Refusal>
+    ensures { result ≡ refuse_if (eqb n 64) (Err NoRoom) (Ok tt) }
 {
     if n == LockState::ACTIVE {
-        return Answer::NoRoom;
+        return Err(Refusal::NoRoom);
     }
-    Answer::Done
+    Ok(())
 }
 
 // ---- 11.1
-pub(crate) fn check_root(new: ActiveLock) -> Answer
+pub(crate) fn check_root(new: ActiveLock) -> Result<(), Refusal>
     ensures { result ≡ check_root new }
 {
-    let lock = new.lock;
-    let scope = lock.scope;
-    if !state::is_vehicle(scope) | new.child {
-        return Answer::NotRootVehicle;
+    if !state::is_vehicle(new.lock.scope) | new.child {
+        return Err(Refusal::NotRootVehicle);
     }
-    Answer::Done
+    Ok(())
 }
 
 // ---- 3
-fn check_active(locks: [ActiveLock; LockState::ACTIVE], n: usize, id: LockId) -> Answer
-    requires { n ≤ 64 }
-    ensures { result ≡ check_active (take n locks) id }
+fn check_active(locks: &[ActiveLock], id: LockId) -> Result<(), Refusal>
+    ensures { result ≡ check_active locks.now id }
 {
-    if id_active(locks, n, id) {
-        return Answer::Done;
+    if id_active(locks, id) {
+        return Ok(());
     }
-    Answer::ActiveLockNotFound(id)
+    Err(Refusal::ActiveLockNotFound(id))
 }
 
 fn is_settled(a: ActiveLock) -> bool
     ensures { result ≡ settled_lock a }
 {
-    let lock = a.lock;
-    let scope = lock.scope;
-    state::is_vehicle(scope) | a.child
+    state::is_vehicle(a.lock.scope) | a.child
+}
+
+fn is_stuck(locks: &[ActiveLock], id: LockId) -> bool
+    ensures { result ≡ list_any (λ a. has_id id a && settled_lock a) locks.now }
+{
+    locks
+        .iter()
+        .any(|a| state::has_id(id, *a) && is_settled(*a))
 }
 
 // ---- 3, 11.2
-fn check_listed(locks: [ActiveLock; LockState::ACTIVE], n: usize, id: LockId) -> Answer
-    requires { n ≤ 64 }
-    ensures { result ≡ check_listed (take n locks) id }
+fn check_listed(locks: &[ActiveLock], id: LockId) -> Result<(), Refusal>
+    ensures { result ≡ check_listed locks.now id }
 {
-    let mut there = false;
-    let mut i: usize = 0;
-    while i < n {
-        let a = locks[i];
-        i += 1;
-        let h = state::has_id(id, a);
-        there = there | h;
-        if h & is_settled(a) {
-            return Answer::BadChild(id);
-        }
+    check_active(locks, id)?;
+    if is_stuck(locks, id) {
+        return Err(Refusal::BadChild(id));
     }
-    if there {
-        return Answer::Done;
-    }
-    Answer::ActiveLockNotFound(id)
+    Ok(())
 }
 
 // An id that names a child, or a root.
-fn check_named(locks: [ActiveLock; LockState::ACTIVE], n: usize, id: LockId, child: bool) -> Answer
-    requires { n ≤ 64 }
-    ensures { result ≡ check_named child (take n locks) id }
+fn check_named(locks: &[ActiveLock], id: LockId, child: bool) -> Result<(), Refusal>
+    ensures { result ≡ check_named child locks.now id }
 {
     if child {
-        return check_listed(locks, n, id);
+        return check_listed(locks, id);
     }
-    check_active(locks, n, id)
+    check_active(locks, id)
+}
+
+fn is_lower(id: LockId, lowest: Option<LockId>) -> bool
+    ensures { result ≡ is_lower id lowest }
+{
+    match lowest {
+        None => true,
+        Some(low) => ids::less(id, low),
+    }
 }
 
 // Of the listed ids the lowest that is refused. A list need not be sorted and may repeat an id.
-pub(crate) fn check_ids(
-    locks: [ActiveLock; LockState::ACTIVE],
-    n: usize,
-    list: &[u64],
-    child: bool,
-) -> Answer
-    requires { n ≤ 64 }
-    ensures { result ≡ first_refusal (check_named child (take n locks)) (ascending_ids list.now) }
+pub(crate) fn check_ids(locks: &[ActiveLock], list: &[u64], child: bool) -> Result<(), Refusal>
+    ensures { result ≡ first_refusal (check_named child locks.now) (ascending_ids list.now) }
 {
     let words = list.len();
-    let mut found = false;
-    let mut best = LockId { hi: 0, lo: 0 };
+    let mut lowest = None;
     let mut j: usize = 0;
     while 1 < words - j {
-        let hi = list[j];
-        let lo = list[j + 1];
-        let id = LockId { hi: hi, lo: lo };
+        let id = LockId {
+            hi: list[j],
+            lo: list[j + 1],
+        };
         j += 2;
-        if !found | ids::less(id, best) {
-            let a = check_named(locks, n, id, child);
-            if !answers::is_done(a) {
-                best = id;
-                found = true;
+        if is_lower(id, lowest) {
+            let told = check_named(locks, id, child);
+            if told.is_err() {
+                lowest = Some(id);
             }
         }
     }
-    if !found {
-        return Answer::Done;
+    match lowest {
+        None => Ok(()),
+        Some(id) => check_named(locks, id, child),
     }
-    check_named(locks, n, best, child)
 }
 
 // ---- 11.3, 11.4 of one lock that the new vehicle lock takes in
-pub(crate) fn check_child(new: ActiveLock, child: ActiveLock) -> Answer
+pub(crate) fn check_child(new: ActiveLock, child: ActiveLock) -> Result<(), Refusal>
     ensures { result ≡ check_child new child }
 {
     let id = child.lock.id;
     let up = new.lock.id;
     if new.lock.subject != child.lock.subject {
-        return Answer::OtherOwner(id, up);
+        return Err(Refusal::OtherOwner(id, up));
     }
     if !new.lock.coverage.contains(child.lock.coverage) {
-        return Answer::NotCovered(id, up);
+        return Err(Refusal::NotCovered(id, up));
     }
-    Answer::Done
+    Ok(())
 }
 
-// Of the marked locks the first that is refused.
+// Of the listed locks the first that is refused.
 pub(crate) fn check_taken(
-    locks: [ActiveLock; LockState::ACTIVE],
-    n: usize,
-    takes: [bool; LockState::ACTIVE],
+    locks: &[ActiveLock],
+    list: &[u64],
     new: ActiveLock,
-) -> Answer
-    requires { n ≤ 64 }
-    ensures { result ≡ first_refusal (check_child new) (flagged (take n takes) (take n locks)) }
+) -> Result<(), Refusal>
+    ensures { result ≡ first_refusal (check_child new) (filter (is_listed list.now) locks.now) }
 {
-    let mut i: usize = 0;
-    while i < n {
-        let a = locks[i];
-        let b = takes[i];
-        i += 1;
-        if b {
-            let told = check_child(new, a);
-            if !answers::is_done(told) {
-                return told;
-            }
+    for a in locks {
+        if ids::listed(list, a.lock.id) {
+            check_child(new, *a)?;
         }
     }
-    Answer::Done
+    Ok(())
 }
 
 // ---- 6
 // Whether the lock is in the tree of a listed root.
-fn in_trees(locks: [ActiveLock; LockState::ACTIVE], n: usize, list: &[u64], a: ActiveLock) -> bool
-    requires { n ≤ 64 }
-    ensures { result ≡ in_trees list.now (take n locks) a }
+fn in_trees(locks: &[ActiveLock], list: &[u64], a: ActiveLock) -> bool
+    ensures { result ≡ list_any (λ r. in_tree r a && is_listed list.now r) locks.now }
 {
-    let mut i: usize = 0;
-    while i < n {
-        let r = locks[i];
-        i += 1;
-        if trees::in_tree(r, a) {
-            if ids::listed(list, r.lock.id) {
-                return true;
-            }
-        }
-    }
-    false
+    locks
+        .iter()
+        .any(|r| trees::in_tree(*r, a) && ids::listed(list, r.lock.id))
 }
 
 // Whether a holder of the scope is outside the trees.
-fn held_outside(
-    locks: [ActiveLock; LockState::ACTIVE],
-    n: usize,
-    list: &[u64],
-    new: ActiveLock,
-) -> bool
-    requires { n ≤ 64 }
-    ensures { result ≡ any (outside list.now (take n locks) new) (take n locks) }
+fn held_outside(locks: &[ActiveLock], list: &[u64], new: ActiveLock) -> bool
+    ensures { result ≡ list_any (λ a. on_scope new.lock.scope a && not (list_any (λ r. in_tree r a && is_listed list.now r) locks.now)) locks.now }
 {
-    let lock = new.lock;
-    let scope = lock.scope;
-    let mut i: usize = 0;
-    while i < n {
-        let a = locks[i];
-        i += 1;
-        if lookups::on_scope(scope, a) {
-            if !in_trees(locks, n, list, a) {
-                return true;
-            }
-        }
-    }
-    false
+    locks.iter().any(|a| lookups::on_scope(new.lock.scope, *a) && !in_trees(locks, list, *a))
 }
 
 pub(crate) fn check_holder(
-    locks: [ActiveLock; LockState::ACTIVE],
-    n: usize,
+    locks: &[ActiveLock],
     list: &[u64],
     new: ActiveLock,
-) -> Answer
-    requires { n ≤ 64 }
-    ensures { result ≡ check_holder (take n locks) list.now new }
+) -> Result<(), Refusal>
+    ensures { result ≡ check_holder locks.now list.now new }
 {
-    if held_outside(locks, n, list, new) {
-        return Answer::ReplacementScopeConflict;
+    if held_outside(locks, list, new) {
+        return Err(Refusal::ReplacementScopeConflict);
     }
-    Answer::Done
+    Ok(())
 }

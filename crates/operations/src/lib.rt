@@ -11,6 +11,7 @@ mod entering;
 pub mod insert;
 pub mod insert_vehicle;
 pub mod numbers;
+mod ordered;
 pub mod renew;
 pub mod replace;
 mod trees;

@@ -1,87 +1,94 @@
-// Document 01's number of every answer: 0 where nothing was refused.
+// Document 01's number of every answer: 0 where nothing was refused. Six functions and no trait: each is the table of its own
+// refusals, and six impls would be the same tables with more lines around them.
 // SPDX-License-Identifier: Apache-2.0
 ghost use Rattle.std.specs.Prelude.{◌≡◌};
 ghost use Rattle.operations.specs.Answers.{paper_of, renewal_paper, deletion_paper, expiration_paper, acknowledgement_paper, expiry_paper};
 
-use crate::answers::{Acknowledgement, Answer, DefunctExpiry, Deletion, Expiration, Renewal};
+use crate::answers::{DeletionRefusal, Expiration, Refusal, RenewalRefusal, StateRefusal};
 
-pub fn of_answer(a: Answer) -> u64
+#[tactic(auto, unfolding(crate::specs::Answers::paper_of))]
+pub fn of_answer(a: Result<(), Refusal>) -> u64
     ensures { result ≡ (paper_of a).number }
 {
     match a {
-        Answer::Done => 0,
-        Answer::DuplicateId(_) => 1,
-        Answer::DuplicateScope => 2,
-        Answer::ActiveLockNotFound(_) => 3,
-        Answer::ParentNotFound(_) => 4,
-        Answer::ParentNotVehicle(_) => 5,
-        Answer::ReplacementScopeConflict => 6,
-        Answer::CoverageConflict(_, _) => 7,
-        Answer::RevisionOverflow => 8,
-        Answer::NotRootVehicle => 11,
-        Answer::BadChild(_) => 11,
-        Answer::OtherOwner(_, _) => 11,
-        Answer::NotCovered(_, _) => 11,
-        Answer::Invariant => 11,
-        Answer::UnsoundState(_) => 12,
-        Answer::NoRoom => 13,
-        Answer::BadList => 14,
+        Ok(()) => 0,
+        Err(Refusal::DuplicateId(_)) => 1,
+        Err(Refusal::DuplicateScope) => 2,
+        Err(Refusal::ActiveLockNotFound(_)) => 3,
+        Err(Refusal::ParentNotFound(_)) => 4,
+        Err(Refusal::ParentNotVehicle(_)) => 5,
+        Err(Refusal::ReplacementScopeConflict) => 6,
+        Err(Refusal::CoverageConflict(_, _)) => 7,
+        Err(Refusal::RevisionOverflow) => 8,
+        Err(Refusal::NotRootVehicle) => 11,
+        Err(Refusal::BadChild(_)) => 11,
+        Err(Refusal::OtherOwner(_, _)) => 11,
+        Err(Refusal::NotCovered(_, _)) => 11,
+        Err(Refusal::Invariant) => 11,
+        Err(Refusal::UnsoundState(_)) => 12,
+        Err(Refusal::NoRoom) => 13,
+        Err(Refusal::BadList) => 14,
     }
 }
 
-pub fn of_renewal(a: Renewal) -> u64
+#[tactic(auto, unfolding(crate::specs::Answers::renewal_paper))]
+pub fn of_renewal(a: Result<(), RenewalRefusal>) -> u64
     ensures { result ≡ (renewal_paper a).number }
 {
     match a {
-        Renewal::Done => 0,
-        Renewal::ActiveLockNotFound(_) => 3,
-        Renewal::RevisionOverflow => 8,
-        Renewal::LockExpired => 9,
-        Renewal::RenewalNotExtension => 10,
-        Renewal::UnsoundState(_) => 12,
+        Ok(()) => 0,
+        Err(RenewalRefusal::ActiveLockNotFound(_)) => 3,
+        Err(RenewalRefusal::RevisionOverflow) => 8,
+        Err(RenewalRefusal::LockExpired) => 9,
+        Err(RenewalRefusal::RenewalNotExtension) => 10,
+        Err(RenewalRefusal::UnsoundState(_)) => 12,
     }
 }
 
-pub fn of_deletion(a: Deletion) -> u64
+#[tactic(auto, unfolding(crate::specs::Answers::deletion_paper))]
+pub fn of_deletion(a: Result<(), DeletionRefusal>) -> u64
     ensures { result ≡ (deletion_paper a).number }
 {
     match a {
-        Deletion::Done => 0,
-        Deletion::ActiveLockNotFound(_) => 3,
-        Deletion::RevisionOverflow => 8,
-        Deletion::UnsoundState(_) => 12,
+        Ok(()) => 0,
+        Err(DeletionRefusal::ActiveLockNotFound(_)) => 3,
+        Err(DeletionRefusal::RevisionOverflow) => 8,
+        Err(DeletionRefusal::UnsoundState(_)) => 12,
     }
 }
 
-pub fn of_expiration(a: Expiration) -> u64
+#[tactic(auto, unfolding(crate::specs::Answers::expiration_paper))]
+pub fn of_expiration(a: Result<Expiration, StateRefusal>) -> u64
     ensures { result ≡ (expiration_paper a).number }
 {
     match a {
-        Expiration::Done => 0,
-        Expiration::Stale => 0,
-        Expiration::NotDue(_) => 0,
-        Expiration::RevisionOverflow => 8,
-        Expiration::UnsoundState(_) => 12,
+        Ok(Expiration::Done) => 0,
+        Ok(Expiration::Stale) => 0,
+        Ok(Expiration::NotDue(_)) => 0,
+        Err(StateRefusal::RevisionOverflow) => 8,
+        Err(StateRefusal::UnsoundState(_)) => 12,
     }
 }
 
-pub fn of_acknowledgement(a: Acknowledgement) -> u64
+#[tactic(auto, unfolding(crate::specs::Answers::acknowledgement_paper))]
+pub fn of_acknowledgement(a: Result<bool, StateRefusal>) -> u64
     ensures { result ≡ (acknowledgement_paper a).number }
 {
     match a {
-        Acknowledgement::Done => 0,
-        Acknowledgement::Absent => 0,
-        Acknowledgement::RevisionOverflow => 8,
-        Acknowledgement::UnsoundState(_) => 12,
+        Ok(true) => 0,
+        Ok(false) => 0,
+        Err(StateRefusal::RevisionOverflow) => 8,
+        Err(StateRefusal::UnsoundState(_)) => 12,
     }
 }
 
-pub fn of_expiry(a: DefunctExpiry) -> u64
+#[tactic(auto, unfolding(crate::specs::Answers::expiry_paper))]
+pub fn of_expiry(a: Result<(), StateRefusal>) -> u64
     ensures { result ≡ (expiry_paper a).number }
 {
     match a {
-        DefunctExpiry::Done => 0,
-        DefunctExpiry::RevisionOverflow => 8,
-        DefunctExpiry::UnsoundState(_) => 12,
+        Ok(()) => 0,
+        Err(StateRefusal::RevisionOverflow) => 8,
+        Err(StateRefusal::UnsoundState(_)) => 12,
     }
 }

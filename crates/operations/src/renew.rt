@@ -1,29 +1,15 @@
 // Renewal of an active lock: 12, 3, 9, 10, 8.
 // SPDX-License-Identifier: Apache-2.0
-ghost use Rattle.std.specs.Prelude.{◌≡◌, ◌≤◌, take};
-ghost use Rattle.operations.specs.Code.{place_in};
-ghost use Rattle.operations.specs.Renew.{extended, judge_lock, renew_on};
+#![tactic(auto, unfolding(crate::specs::Answers::refuse_if, crate::specs::Answers::and_then, crate::specs::Answers::is_done, lookups::specs::Reads::on_sound, crate::specs::Checks::at_last_lem, crate::specs::Renew::judge_renew, crate::specs::Code::renewable))]
 
-use crate::answers::{Renewal, Renewed};
+ghost use Rattle.std.specs.Prelude.{map, ◌≡◌};
+ghost use Rattle.operations.specs.Renew.{extended, extend_at, judge_lock, renew_on};
+ghost use Rattle.operations.specs.Code.{renewable};
+
+use crate::answers::{RenewalRefusal, Renewed};
+use crate::checks;
 use ids::LockId;
-use rules::Verdict;
 use state::{ActiveLock, LockState};
-
-// The place of the lock with this id; the count where there is none.
-pub(crate) fn place_of(locks: [ActiveLock; LockState::ACTIVE], n: usize, id: LockId) -> usize
-    requires { n ≤ 64 }
-    ensures { result ≡ place_in id (take n locks) }
-{
-    let mut i: usize = 0;
-    while i < n {
-        let a = locks[i];
-        if state::has_id(id, a) {
-            return i;
-        }
-        i += 1;
-    }
-    n
-}
 
 fn extend(a: ActiveLock, expires: u64, given: bool, metadata: u32) -> ActiveLock
     ensures { result ≡ extended expires given metadata a }
@@ -37,19 +23,39 @@ fn extend(a: ActiveLock, expires: u64, given: bool, metadata: u32) -> ActiveLock
 }
 
 // 9, 10, 8, of the lock that was found.
-fn judge(a: ActiveLock, revision: u64, expires: u64, now: u64) -> Renewal
+fn judge(a: ActiveLock, revision: u64, expires: u64, now: u64) -> Result<(), RenewalRefusal>
     ensures { result ≡ judge_lock revision expires now a }
 {
     if a.expires <= now {
-        return Renewal::LockExpired;
+        return Err(RenewalRefusal::LockExpired);
     }
     if expires <= a.expires {
-        return Renewal::RenewalNotExtension;
+        return Err(RenewalRefusal::RenewalNotExtension);
     }
     if revision == u64::MAX {
-        return Renewal::RevisionOverflow;
+        return Err(RenewalRefusal::RevisionOverflow);
     }
-    Renewal::Done
+    Ok(())
+}
+
+// What refuses: 12, 3, 9, 10, 8.
+fn allowed(s: &LockState, id: LockId, expires: u64, now: u64) -> Result<(), RenewalRefusal>
+    ensures { result ≡ renewable s.now id expires now }
+{
+    rules::broken(*s)?;
+    let found = checks::lock_with(s.active_locks(), id);
+    let lock = found.ok_or(RenewalRefusal::ActiveLockNotFound(id))?;
+    judge(lock, s.revision, expires, now)
+}
+
+fn extend_in(locks: &mut [ActiveLock], id: LockId, expires: u64, given: bool, metadata: u32)
+    ensures { locks.new ≡ map (extend_at id expires given metadata) locks.old }
+{
+    for a in locks.iter_mut() {
+        if state::has_id(id, *a) {
+            *a = extend(*a, expires, given, metadata);
+        }
+    }
 }
 
 // The lock's expires_at moves on, its metadata too where some is given. The state that comes of it is sound and is not tested
@@ -64,27 +70,12 @@ pub fn renew(
 ) -> Renewed
     ensures { result ≡ renew_on s id expires now given metadata }
 {
-    let mut told = Renewal::Done;
-    let v = rules::broken(s);
-    match v {
-        Verdict::Broken(n) => {
-            told = Renewal::UnsoundState(n);
-        }
-        Verdict::Sound => {
-            let mut locks = s.active;
-            let i = place_of(locks, s.actives, id);
-            if s.actives <= i {
-                told = Renewal::ActiveLockNotFound(id);
-            } else {
-                let a = locks[i];
-                told = judge(a, s.revision, expires, now);
-                if let Renewal::Done = told {
-                    locks[i] = extend(a, expires, given, metadata);
-                    s.active = locks;
-                    s.revision = s.revision + 1;
-                }
-            }
-        }
+    let told = allowed(&s, id, expires, now);
+    if told.is_ok() {
+        let mut locks = s.active;
+        extend_in(&mut locks[..s.actives], id, expires, given, metadata);
+        s.active = locks;
+        s.revision += 1;
     }
     Renewed { told, state: s }
 }

@@ -1,7 +1,9 @@
 // commit_replacement: 12, 14, 3 lowest, 1, 6; the trees out, entered as defunct; 2, 4, 5, 11.3, 11.4, 7, 8, lowest adopted
 // 11.4, 13.
 // SPDX-License-Identifier: Apache-2.0
-ghost use Rattle.std.specs.Prelude.{map, ◌≡◌, ◌≤◌, ◌<◌, take};
+#![tactic(auto, using(lists::proofs::Tests::codes), unfolding(crate::specs::Answers::refuse_if, crate::specs::Answers::and_then, crate::specs::Answers::is_done, lookups::specs::Reads::on_sound, crate::specs::Code::check_entry, crate::specs::Replace::orphan))]
+
+ghost use Rattle.std.specs.Prelude.{map, ◌≡◌, ◌<◌, length, take};
 ghost use Rattle.lists.specs.Lists.{filter, insert_by};
 ghost use Rattle.lists.specs.Places.{in_places};
 ghost use Rattle.state.specs.Locks.{akey, blank_active};
@@ -10,34 +12,22 @@ ghost use Rattle.operations.specs.Answers.{and_then, first_refusal};
 ghost use Rattle.operations.specs.Checks.{check_list, check_revision, check_child};
 ghost use Rattle.operations.specs.Vehicle.{adopt};
 ghost use Rattle.operations.specs.Replace.{orphan, commit_replacement_on};
-ghost use Rattle.operations.specs.Code.{Placed, check_insert, check_entry};
+ghost use Rattle.operations.specs.Code.{Placed, check_insert, check_entry, on_tested, replaced_or};
 
-use crate::answers::{Answer, Replaced, Replacement};
-use crate::{answers, checks, entering, insert_vehicle, trees};
-use rules::Verdict;
+use crate::answers::{Refusal, Removing, Replaced, Replacement};
+use crate::{checks, entering, insert, insert_vehicle, ordered, trees};
 use state::{ActiveLock, LockState};
 
-// What is judged on the state at entry: 14, 3, 1, 6.
-fn judged_entry(s: LockState, list: &[u64], new: ActiveLock) -> Answer
-    requires { (s.actives ≤ 64) × (s.defuncts ≤ 128) }
-    ensures { result ≡ and_then (check_list list.now) (check_entry (model_of s).active (model_of s).defunct list.now new) }
+// What is judged on the state at entry: 12, 14, 3, 1, 6.
+fn judged_entry(s: &LockState, list: &[u64], new: ActiveLock) -> Result<(), Refusal>
+    ensures { result ≡ on_tested s.now (and_then (check_list list.now) (check_entry (model_of s.now).active (model_of s.now).defunct list.now new)) }
 {
-    let locks = s.active;
-    let n = s.actives;
-    let entries = s.defunct;
-    let a = checks::check_list(list);
-    if !answers::is_done(a) {
-        return a;
-    }
-    let b = checks::check_ids(locks, n, list, false);
-    if !answers::is_done(b) {
-        return b;
-    }
-    let d = checks::check_id(locks, n, entries, s.defuncts, new);
-    if !answers::is_done(d) {
-        return d;
-    }
-    checks::check_holder(locks, n, list, new)
+    rules::broken(*s)?;
+    let locks = s.active_locks();
+    checks::check_list(list)?;
+    checks::check_ids(locks, list, false)?;
+    checks::check_id(locks, s.defunct_locks(), new)?;
+    checks::check_holder(locks, list, new)
 }
 
 // ---- a vehicle lock takes in every other parentless lock of its subject
@@ -53,39 +43,20 @@ fn is_orphan(new: ActiveLock, a: ActiveLock) -> bool
 }
 
 // What is judged on the locks that stay: 2, 4, 5, 11.3, 11.4, 7, 8, 11.4 of those taken in.
-fn judged_left(
-    revision: u64,
-    locks: [ActiveLock; LockState::ACTIVE],
-    n: usize,
-    new: ActiveLock,
-) -> Answer
-    requires { n ≤ 64 }
-    ensures { result ≡ and_then (check_insert (take n locks) new) (and_then (check_revision revision) (first_refusal (check_child new) (filter (orphan new) (take n locks)))) }
+fn judged_left(revision: u64, locks: &[ActiveLock], new: ActiveLock) -> Result<(), Refusal>
+    ensures { result ≡ and_then (check_insert locks.now new) (and_then (check_revision revision) (first_refusal (check_child new) (filter (orphan new) locks.now))) }
 {
-    let a = checks::check_insert(locks, n, new);
-    if !answers::is_done(a) {
-        return a;
-    }
-    let b = checks::check_revision(revision);
-    if !answers::is_done(b) {
-        return b;
-    }
-    let mut i: usize = 0;
-    while i < n {
-        let l = locks[i];
-        i += 1;
-        if is_orphan(new, l) {
-            let told = checks::check_child(new, l);
-            if !answers::is_done(told) {
-                return told;
-            }
+    checks::check_insert(locks, new)?;
+    checks::check_revision(revision)?;
+    for a in locks {
+        if is_orphan(new, *a) {
+            checks::check_child(new, *a)?;
         }
     }
-    Answer::Done
+    Ok(())
 }
 
-// The new lock among those that stay, which become its children where it takes them in. One function, since a list that is
-// handed on is copied.
+// The new lock among those that stay, which become its children where it takes them in.
 fn joined(
     mut locks: [ActiveLock; LockState::ACTIVE],
     n: usize,
@@ -94,34 +65,53 @@ fn joined(
     requires { Placed locks n × (n < 64) }
     ensures { result ≡ in_places 64 blank_active (insert_by akey new (map (adopt (orphan new) new) (take n locks))) }
 {
-    let mut i: usize = 0;
-    while i < n {
-        let k = i;
-        i += 1;
-        let a = locks[k];
-        if is_orphan(new, a) {
-            locks[k] = insert_vehicle::nested(new, a);
-        }
-    }
-    let mut k: usize = 0;
-    while k < n {
-        let a = locks[k];
-        if ids::less(new.lock.id, a.lock.id) {
-            break;
-        }
-        k += 1;
-    }
-    let mut j = n;
-    while k < j {
-        let y = locks[j - 1];
-        locks[j] = y;
-        j -= 1;
-    }
-    locks[k] = new;
+    insert_vehicle::taken_in(&mut locks[..n], new, |a| is_orphan(new, *a));
+    ordered::put_in(&mut locks[..n + 1], new);
     locks
 }
 
-// One function, since a state that is handed on is copied: one exit for every refusal, and one for the next state.
+// The next state, and the locks that went, where nothing refuses.
+fn replaced(
+    s: &LockState,
+    list: &[u64],
+    lock: ActiveLock,
+    by: u32,
+    at: u64,
+) -> Result<Replaced, Refusal>
+    requires { (length s.now.active ≡ 64) × (length s.now.defunct ≡ 128) }
+    ensures { replaced_or s.now result ≡ commit_replacement_on s.now list.now lock by at }
+{
+    let new = state::normal_form(lock);
+    judged_entry(s, list, new)?;
+    let cut = trees::roots_out(s.active_locks(), list);
+    let n = cut.left;
+    judged_left(s.revision, &cut.kept[..n], new)?;
+    let entries = s.defunct;
+    let removed = cut.removed;
+    let table = entering::entered(entries, s.defuncts, removed, cut.gone, new, by, at);
+    if (n == LockState::ACTIVE) | (LockState::DEFUNCT < table.count) {
+        return Err(Refusal::NoRoom);
+    }
+    let active = joined(cut.kept, n, new);
+    let defunct = table.list;
+    let next = LockState {
+        revision: s.revision + 1,
+        active,
+        actives: n + 1,
+        defunct,
+        defuncts: table.count,
+    };
+    insert::closed(&next)?;
+    Ok(Replaced {
+        told: Replacement {
+            answer: Ok(()),
+            gone: cut.gone,
+            removed,
+        },
+        state: next,
+    })
+}
+
 pub fn commit_replacement(
     s: LockState,
     list: &[u64],
@@ -131,68 +121,11 @@ pub fn commit_replacement(
 ) -> Replaced
     ensures { result ≡ commit_replacement_on s list.now lock by at }
 {
-    let b = state::blank_active();
-    let blanks = [b; LockState::ACTIVE];
-    let mut told = Answer::Done;
-    let v = rules::broken(s);
-    match v {
-        Verdict::Broken(k) => {
-            told = Answer::UnsoundState(k);
-        }
-        Verdict::Sound => {
-            let new = state::normal_form(lock);
-            told = judged_entry(s, list, new);
-            if answers::is_done(told) {
-                let locks = s.active;
-                let places = trees::roots_out(locks, s.actives, list);
-                // read anew: a local that two calls take is copied for itself
-                let all = s.active;
-                let cut = trees::moved(places, all);
-                let kept = cut.kept;
-                let n = cut.left;
-                told = judged_left(s.revision, kept, n, new);
-                if answers::is_done(told) {
-                    let entries = s.defunct;
-                    let went = cut.removed;
-                    let table = entering::entered(entries, s.defuncts, went, cut.gone, new, by, at);
-                    if (n == LockState::ACTIVE) | (LockState::DEFUNCT < table.count) {
-                        told = Answer::NoRoom;
-                    } else {
-                        let defunct = table.list;
-                        let next = LockState {
-                            revision: s.revision + 1,
-                            active: joined(kept, n, new),
-                            actives: n + 1,
-                            defunct: defunct,
-                            defuncts: table.count,
-                        };
-                        // the closing check, as the original's validate_invariants
-                        let w = rules::broken(next);
-                        if let Verdict::Broken(_) = w {
-                            told = Answer::Invariant;
-                        } else {
-                            // read anew, as above
-                            let went = cut.removed;
-                            return Replaced {
-                                told: Replacement {
-                                    answer: Answer::Done,
-                                    gone: cut.gone,
-                                    removed: went,
-                                },
-                                state: next,
-                            };
-                        }
-                    }
-                }
-            }
-        }
-    }
-    Replaced {
-        told: Replacement {
-            answer: told,
-            gone: 0,
-            removed: blanks,
+    match replaced(&s, list, lock, by, at) {
+        Ok(done) => done,
+        Err(refusal) => Replaced {
+            told: Removing::nothing(Err(refusal)),
+            state: s,
         },
-        state: s,
     }
 }

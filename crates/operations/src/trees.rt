@@ -1,28 +1,22 @@
 // Trees of active locks that are removed.
 // SPDX-License-Identifier: Apache-2.0
-ghost use Rattle.std.specs.Prelude.{◌≡◌, ◌≤◌, take};
-ghost use Rattle.lists.specs.Lists.{any};
-ghost use Rattle.operations.specs.Trees.{child_of, in_tree, tree_parts, start_parts};
-ghost use Rattle.operations.specs.Code.{Placed, split_of, parts_in, Sorting, start_halves, take_halves, marked, marked_tree, marked_root, roots_halves, halves_of, places_of};
+ghost use Rattle.std.specs.Prelude.{Bool, map, ◌≡◌, ◌≤◌, length};
+ghost use Rattle.std.specs.Fn.{FnReturnsAt};
+ghost use Rattle.lists.specs.Places.{in_places};
+ghost use Rattle.state.specs.Locks.{blank_active};
+ghost use Rattle.operations.specs.Trees.{child_of, in_tree, tree_parts, start_parts, roots_parts};
+ghost use Rattle.operations.specs.Code.{split_of, parts_in, Sorting, Low, Tells, lock_at, start_halves, take_halves, tree_halves, root_halves, halves_of, places_of};
 
 use state::{ActiveLock, LockState};
 
-// The active locks: those that stay, and those that went, in the order of their going.
+// What stays, and what went, in the order of its going: places in the list that came in, so that each lock is moved once,
+// at the end; then the locks at them.
 #[derive(Clone, Copy)]
-pub(crate) struct Split {
+pub(crate) struct Split<T> {
     pub left: usize,
-    pub kept: [ActiveLock; LockState::ACTIVE],
+    pub kept: [T; LockState::ACTIVE],
     pub gone: usize,
-    pub removed: [ActiveLock; LockState::ACTIVE],
-}
-
-// The same as places in the list that came in, so that each lock is moved once, at the end.
-#[derive(Clone, Copy)]
-pub(crate) struct Places {
-    left: usize,
-    kept: [usize; LockState::ACTIVE],
-    gone: usize,
-    went: [usize; LockState::ACTIVE],
+    pub removed: [T; LockState::ACTIVE],
 }
 
 fn child_of(r: ActiveLock, a: ActiveLock) -> bool
@@ -38,178 +32,140 @@ pub(crate) fn in_tree(r: ActiveLock, a: ActiveLock) -> bool
     child_of(r, a) | lookups::narrow_of(r, a) | state::has_id(r.lock.id, a)
 }
 
-// One step: the places that go are listed, and those that stay are written into a fresh list.
-fn take_out(s: Places, goes: [bool; LockState::ACTIVE]) -> Places
-    requires { Sorting s }
-    ensures { result ≡ places_of (take_halves (marked goes) (halves_of s)) }
+// One step: the places whose lock goes are listed, and those that stay are written into a fresh list.
+fn take_out<F: Fn(&ActiveLock) -> bool>(
+    s: &Split<usize>,
+    locks: &[ActiveLock],
+    goes: F,
+) -> Split<usize>
+    requires sorting { Sorting (length locks.now) s.now }
+    requires callable { F.IsAlwaysCallable goes }
+    ensures { (p : ActiveLock → Bool) → Tells (FnReturnsAt F.Fn goes) p → result ≡ places_of (take_halves (λ j. p (lock_at locks.now j)) (halves_of s.now)) }
 {
-    let n = s.left;
     let mut kept = [0usize; LockState::ACTIVE];
-    let mut w: usize = 0;
-    let mut went = s.went;
-    let mut g = s.gone;
-    let mut i: usize = 0;
-    while i < n {
-        let j = s.kept[i];
-        i += 1;
-        if goes[j] {
-            went[g] = j;
-            g += 1;
+    let mut left = 0;
+    let mut removed = s.removed;
+    let mut gone = s.gone;
+    for &j in &s.kept[..s.left] {
+        if goes(&locks[j]) {
+            removed[gone] = j;
+            gone += 1;
         } else {
-            kept[w] = j;
-            w += 1;
+            kept[left] = j;
+            left += 1;
         }
-    }
-    Places {
-        left: w,
-        kept: kept,
-        gone: g,
-        went: went,
-    }
-}
-
-// A tree goes, by the marks of its three steps: the children, then what a group covers, then the root.
-fn cut_tree(
-    s: Places,
-    children: [bool; LockState::ACTIVE],
-    narrow: [bool; LockState::ACTIVE],
-    root: [bool; LockState::ACTIVE],
-) -> Places
-    requires { Sorting s }
-    ensures { result ≡ places_of (marked_tree children narrow root (halves_of s)) }
-{
-    take_out(take_out(take_out(s, children), narrow), root)
-}
-
-// Whether one that stays is marked.
-fn is_left(s: Places, root: [bool; LockState::ACTIVE]) -> bool
-    requires { Sorting s }
-    ensures { result ≡ any (marked root) (halves_of s).kept }
-{
-    let n = s.left;
-    let mut i: usize = 0;
-    while i < n {
-        let j = s.kept[i];
-        i += 1;
-        if root[j] {
-            return true;
-        }
-    }
-    false
-}
-
-// A root that went with an earlier tree takes nothing with it.
-fn root_out(
-    s: Places,
-    children: [bool; LockState::ACTIVE],
-    narrow: [bool; LockState::ACTIVE],
-    root: [bool; LockState::ACTIVE],
-) -> Places
-    requires { Sorting s }
-    ensures { result ≡ places_of (marked_root children narrow root (halves_of s)) }
-{
-    if is_left(s, root) {
-        return cut_tree(s, children, narrow, root);
-    }
-    s
-}
-
-fn all_places(n: usize) -> Places
-    requires { n ≤ 64 }
-    ensures { result ≡ places_of (start_halves n) }
-{
-    let mut kept = [0usize; LockState::ACTIVE];
-    let mut i: usize = 0;
-    while i < n {
-        kept[i] = i;
-        i += 1;
-    }
-    Places {
-        left: n,
-        kept: kept,
-        gone: 0,
-        went: [0usize; LockState::ACTIVE],
-    }
-}
-
-// Within the one list that came in: those that went are read out of it first; then each place takes its lock, from itself or
-// from a later place, and the places left over are blanked. One function, since a list that is handed on is copied.
-pub(crate) fn moved(s: Places, mut locks: [ActiveLock; LockState::ACTIVE]) -> Split
-    requires { Sorting s }
-    ensures { result ≡ split_of (parts_in locks (halves_of s)) }
-{
-    let b = state::blank_active();
-    let mut removed = [b; LockState::ACTIVE];
-    let mut g: usize = 0;
-    while g < s.gone {
-        let j = s.went[g];
-        removed[g] = locks[j];
-        g += 1;
-    }
-    let mut i: usize = 0;
-    while i < s.left {
-        let j = s.kept[i];
-        let y = locks[j];
-        locks[i] = y;
-        i += 1;
-    }
-    while i < LockState::ACTIVE {
-        locks[i] = b;
-        i += 1;
     }
     Split {
-        left: s.left,
-        kept: locks,
-        gone: s.gone,
+        left,
+        kept,
+        gone,
         removed,
     }
 }
 
-// The first n locks without the tree of r. The marks are made here, and below once more, since a list that is handed on is
-// copied.
-pub(crate) fn tree_out(locks: [ActiveLock; LockState::ACTIVE], n: usize, r: ActiveLock) -> Split
-    requires { Placed locks n }
-    ensures { result ≡ split_of (tree_parts r (start_parts (take n locks))) }
+// The tree of r goes: the children, then what a group covers, then the root.
+fn cut_tree(s: &Split<usize>, locks: &[ActiveLock], r: &ActiveLock) -> Split<usize>
+    requires { Sorting (length locks.now) s.now }
+    ensures { result ≡ places_of (tree_halves locks.now r.now (halves_of s.now)) }
 {
-    let mut children = [false; LockState::ACTIVE];
-    let mut narrow = [false; LockState::ACTIVE];
-    let mut root = [false; LockState::ACTIVE];
-    let mut i: usize = 0;
-    while i < n {
-        let a = locks[i];
-        children[i] = child_of(r, a);
-        narrow[i] = lookups::narrow_of(r, a);
-        root[i] = state::has_id(r.lock.id, a);
-        i += 1;
-    }
-    let s = cut_tree(all_places(n), children, narrow, root);
-    moved(s, locks)
+    let s = take_out(s, locks, |a| child_of(*r, *a));
+    let s = take_out(&s, locks, |a| lookups::narrow_of(*r, *a));
+    take_out(&s, locks, |a| state::has_id(r.lock.id, *a))
 }
 
-// The places of the first n locks once the trees of the listed roots are out, ascending, each from what then remains.
-pub(crate) fn roots_out(locks: [ActiveLock; LockState::ACTIVE], n: usize, list: &[u64]) -> Places
-    requires { Placed locks n }
-    ensures { result ≡ places_of (roots_halves list.now locks n) }
+// A root that went with an earlier tree takes nothing with it.
+fn root_out(s: &Split<usize>, locks: &[ActiveLock], r: &ActiveLock) -> Split<usize>
+    requires { Sorting (length locks.now) s.now }
+    ensures { result ≡ places_of (root_halves locks.now r.now (halves_of s.now)) }
 {
-    let mut out = all_places(n);
-    let mut at: usize = 0;
-    while at < n {
-        let r = locks[at];
-        at += 1;
-        if ids::listed(list, r.lock.id) {
-            let mut children = [false; LockState::ACTIVE];
-            let mut narrow = [false; LockState::ACTIVE];
-            let mut root = [false; LockState::ACTIVE];
-            let mut i: usize = 0;
-            while i < n {
-                let a = locks[i];
-                children[i] = child_of(r, a);
-                narrow[i] = lookups::narrow_of(r, a);
-                root[i] = state::has_id(r.lock.id, a);
-                i += 1;
-            }
-            out = root_out(out, children, narrow, root);
+    for &j in &s.kept[..s.left] {
+        if state::has_id(r.lock.id, locks[j]) {
+            return cut_tree(s, locks, r);
         }
     }
+    *s
+}
+
+fn all_places(n: usize) -> Split<usize>
+    requires { n ≤ 64 }
+    ensures { result ≡ places_of (start_halves n) }
+{
+    let mut kept = [0usize; LockState::ACTIVE];
+    for i in 0..n {
+        kept[i] = i;
+    }
+    Split {
+        left: n,
+        kept,
+        gone: 0,
+        removed: [0; LockState::ACTIVE],
+    }
+}
+
+fn locks_at(locks: &[ActiveLock], places: &[usize]) -> [ActiveLock; LockState::ACTIVE]
+    requires { (length places.now ≤ 64) × Low (length locks.now) places.now }
+    ensures { result ≡ in_places 64 blank_active (map (lock_at locks.now) places.now) }
+{
+    let mut out = [state::blank_active(); LockState::ACTIVE];
+    for (i, &j) in places.iter().enumerate() {
+        out[i] = locks[j];
+    }
     out
+}
+
+// Within the one list that is held (02, C-14): those that go are read out of it first; then each place takes its lock, from
+// itself or from a later place, and the places left over are blanked.
+pub(crate) fn moved_down(
+    s: &Split<usize>,
+    locks: &mut [ActiveLock],
+) -> [ActiveLock; LockState::ACTIVE]
+    requires { Sorting (length locks.old) s.now × (length locks.old ≡ 64) }
+    ensures kept { locks.new ≡ in_places 64 blank_active (map (lock_at locks.old) (halves_of s.now).kept) }
+    ensures removed { result ≡ in_places 64 blank_active (map (lock_at locks.old) (halves_of s.now).gone) }
+{
+    let removed = locks_at(locks, &s.removed[..s.gone]);
+    for i in 0..s.left {
+        let a = locks[s.kept[i]];
+        locks[i] = a;
+    }
+    let blank = state::blank_active();
+    for i in s.left..LockState::ACTIVE {
+        locks[i] = blank;
+    }
+    removed
+}
+
+fn moved(s: &Split<usize>, locks: &[ActiveLock]) -> Split<ActiveLock>
+    requires { Sorting (length locks.now) s.now × (length locks.now ≤ 64) }
+    ensures { result ≡ split_of (parts_in locks.now (halves_of s.now)) }
+{
+    Split {
+        left: s.left,
+        kept: locks_at(locks, &s.kept[..s.left]),
+        gone: s.gone,
+        removed: locks_at(locks, &s.removed[..s.gone]),
+    }
+}
+
+// The places without the tree of r.
+pub(crate) fn tree_out(locks: &[ActiveLock], r: &ActiveLock) -> Split<usize>
+    requires { length locks.now ≤ 64 }
+    ensures sorting { Sorting (length locks.now) result }
+    ensures parts { parts_in locks.now (halves_of result) ≡ tree_parts r.now (start_parts locks.now) }
+{
+    cut_tree(&all_places(locks.len()), locks, r)
+}
+
+// The locks without the trees of the listed roots, ascending, each from what then remains.
+pub(crate) fn roots_out(locks: &[ActiveLock], list: &[u64]) -> Split<ActiveLock>
+    requires { length locks.now ≤ 64 }
+    ensures { result ≡ split_of (roots_parts list.now locks.now) }
+{
+    let mut out = all_places(locks.len());
+    for r in locks {
+        if ids::listed(list, r.lock.id) {
+            out = root_out(&out, locks, r);
+        }
+    }
+    moved(&out, locks)
 }

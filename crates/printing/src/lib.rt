@@ -1,154 +1,89 @@
-// What programs tell a person: words, numbers, ids, and the image in a named file, or why there is none.
+// What programs tell a person: ids, why a file can't be used, and the image in a named file, or why it is refused.
 // SPDX-License-Identifier: Apache-2.0
 #![tactic(auto)]
 
-ghost use Rattle.std.specs.Prelude.{◌≡◌, ◌≤◌, false, eqb, length};
-ghost use Rattle.image.specs.Image.{reading_paper};
+ghost use Rattle.std.specs.Prelude.{◌≡◌};
 ghost use Rattle.printing.specs.Files.{given_by, FromBytes};
 
-use ids::LockId;
-use image::{Reading, Spare, read};
-use state::LockState;
+use image::{ImageRefusal, Spare, read};
 use std::fs::File;
-use std::io::Read;
+use std::io::{ErrorKind, Read};
 use std::rt::Files;
 use std::{io, str};
 
 pub mod text;
 
-// The spare is empty where no image was accepted.
-#[derive(Clone, Copy)]
-pub struct Given {
-    pub accepted: bool,
-    pub spare: Spare,
+// The refusal's number, its name, and its offset or rule. What can't be written is passed over, here and below: what an image
+// reads as doesn't depend on who reads the words.
+// spare has one of its own, which says other words.
+fn refused(rt: &impl Print, why: ImageRefusal) {
+    let _ = match why {
+        ImageRefusal::Torn(at) => println!(rt; "refused 17 Torn at {at}"),
+        ImageRefusal::BadKind(at) => println!(rt; "refused 18 BadKind at {at}"),
+        ImageRefusal::BadField(at) => println!(rt; "refused 19 BadField at {at}"),
+        ImageRefusal::BadOrder(at) => println!(rt; "refused 20 BadOrder at {at}"),
+        ImageRefusal::UnsoundState(rule) => println!(rt; "refused 12 UnsoundState rule {rule}"),
+    };
 }
 
-// What can't be written is passed over: what an image reads as doesn't depend on who reads the words.
-pub fn say(rt: &impl Print, t: &[u8]) {
-    let _ = rt.write_all(t);
-}
-
-pub fn number(rt: &impl Print, what: &[u8], n: u64) {
-    say(rt, what);
-    let _ = rt.print(n);
-}
-
-pub fn id(rt: &impl Print, what: &[u8], id: LockId) {
-    say(rt, what);
-    let t = text::id_text(id);
-    say(rt, &t);
-}
-
-// The refusal's number, its name, and its offset or rule.
-fn refused(rt: &impl Print, n: u64, name: &[u8], value: u64) -> bool
-    ensures { result ≡ false }
-{
-    number(rt, b"refused ", n);
-    say(rt, name);
-    number(rt, b" ", value);
-    say(rt, b"\n");
-    false
-}
-
-// Whether the image was read; if not, it prints why.
-fn accepted(rt: &impl Print, told: Reading) -> bool
-    ensures { result ≡ eqb (reading_paper told).number 0 }
-{
-    match told {
-        Reading::Done => true,
-        Reading::Torn(at) => refused(rt, 17, b" Torn at", at as u64),
-        Reading::BadKind(at) => refused(rt, 18, b" BadKind at", at as u64),
-        Reading::BadField(at) => refused(rt, 19, b" BadField at", at as u64),
-        Reading::BadOrder(at) => refused(rt, 20, b" BadOrder at", at as u64),
-        Reading::UnsoundState(rule) => refused(rt, 12, b" UnsoundState rule", rule as u64),
-    }
-}
-
-fn read_bytes(rt: &impl Print, image: &[u8]) -> Given
+fn read_bytes(rt: &impl Print, image: &[u8]) -> Option<Spare>
     ensures { result ≡ given_by image.now }
 {
-    let r = read::read_image(image);
-    let told = r.told;
-    let spare = r.spare;
-    Given {
-        accepted: accepted(rt, told),
-        spare,
-    }
-}
-
-// Reads until the buffer is full, the input ends or a read fails: how many bytes stand in it.
-fn read_full(from: &mut impl Read, into: &mut [u8]) -> usize
-    ensures { result ≤ length into.new }
-{
-    let mut done = 0;
-    while done < into.len() {
-        let n = from.read(&mut into[done..]).unwrap_or(0);
-        if n == 0 {
-            break;
+    let read = read::read_image(image);
+    match read.told {
+        Ok(()) => Some(read.spare),
+        Err(why) => {
+            refused(rt, why);
+            None
         }
-        done += n;
     }
-    done
 }
 
-// No image is as long as the buffer: one that fills it has extra bytes.
-fn read_from(rt: &impl Print, mut from: impl Read + Drop) -> Given
+// No image is as long as what is read of it at most: one that is longer has extra bytes. A read that fails ends it; one that
+// memory ran out for gives no image.
+fn read_from(rt: &(impl Print + Eprint + Alloc), from: impl Read + Drop) -> Option<Spare>
     ensures { FromBytes result }
 {
-    let mut bytes = [0u8; 65536];
-    let n = read_full(&mut from, &mut bytes);
-    read_bytes(rt, &bytes[..n])
-}
-
-fn is_dash(name: &[u8]) -> bool {
-    if name.len() != 1 {
-        return false;
+    let mut bytes = Vec::new(rt.alloc());
+    if let Err(error) = from.take(65536).read_to_end(&mut bytes) {
+        if let ErrorKind::OutOfMemory = error.kind() {
+            fail(rt, "read", error);
+            return None;
+        }
     }
-    name[0] == b'-'
-}
-
-// As of no bytes, with nothing printed.
-fn nothing() -> Given
-    ensures { FromBytes result }
-{
-    Given {
-        accepted: false,
-        spare: Spare {
-            state: LockState::empty(),
-            expected: 0,
-        },
-    }
+    read_bytes(rt, bytes.as_slice())
 }
 
 // The system's words alone: std's text of an error has its number after them.
-fn fail(rt: &(impl Eprint + Alloc), name: &str, error: io::Error) -> io::Result<()> {
-    let text = format!(in rt.alloc(); "{error}")?;
-    let words = text.as_str().split(" (os error ").next().unwrap_or("");
-    eprintln!(rt; "{name}: {words}")
+pub fn fail(rt: &(impl Eprint + Alloc), what: &str, error: io::Error) {
+    if let Ok(text) = format!(in rt.alloc(); "{error}") {
+        let words = text.as_str().split(" (os error ").next().unwrap_or("");
+        let _ = eprintln!(rt; "{what}: {words}");
+    }
 }
 
 // std opens a file by a name that is text, and no other.
-fn image_of(rt: &(impl Print + Eprint + Files + Alloc), name: &[u8]) -> Given
+fn image_of(rt: &(impl Print + Eprint + Files + Alloc), name: &[u8]) -> Option<Spare>
     ensures { FromBytes result }
 {
     let Ok(path) = str::from_utf8(name) else {
         let _ = eprintln!(rt; "{}: not UTF-8", name.escape_ascii());
-        return nothing();
+        return None;
     };
     match File::open(rt, path) {
         Ok(file) => read_from(rt, file),
         Err(error) => {
-            let _ = fail(rt, path, error);
-            nothing()
+            fail(rt, path, error);
+            None // as of no bytes
         }
     }
 }
 
 // The image in the file, or on standard input for the name -. What is refused or can't be opened is told.
-pub fn image_in(rt: &(impl Print + Eprint + Input + Files + Alloc), name: &[u8]) -> Given
+pub fn image_in(rt: &(impl Print + Eprint + Input + Files + Alloc), name: &[u8]) -> Option<Spare>
     ensures { FromBytes result }
 {
-    if is_dash(name) {
+    if name == b"-".as_slice() {
         return read_from(rt, rt.reader());
     }
     image_of(rt, name)

@@ -4,9 +4,10 @@ ghost use Rattle.std.specs.Prelude.{◌≡◌, ◌%◌};
 ghost use Rattle.printing.specs.Text.{hex_digit_ascii, four_of, id_text};
 
 use ids::LockId;
+use std::fmt;
 
 // Added to ten it is the letter a.
-const LETTERS: u8 = 87;
+const LETTERS: u8 = b'a' - 10;
 
 // The last hexadecimal digit.
 fn digit(x: u64) -> u8
@@ -14,7 +15,7 @@ fn digit(x: u64) -> u8
 {
     let d = (x % 16) as u8;
     if d < 10 {
-        return 48 + d;
+        return b'0' + d;
     }
     LETTERS + d
 }
@@ -26,7 +27,8 @@ fn four(x: u64) -> [u8; 4]
     [digit(x >> 12), digit(x >> 8), digit(x >> 4), digit(x)]
 }
 
-// Lowercase UUID text, 8-4-4-4-12.
+// Lowercase UUID text, 8-4-4-4-12. Written place by place: with copy_from_slice into a text of dashes (tried) the parts' bounds
+// and the equation with `id_text` stay open.
 pub fn id_text(id: LockId) -> [u8; 36]
     ensures { result ≡ id_text id }
 {
@@ -45,4 +47,17 @@ pub fn id_text(id: LockId) -> [u8; 36]
         d[1], d[2], d[3], b'-', e[0], e[1], e[2], e[3], b'-', f[0], f[1], f[2], f[3], g[0], g[1],
         g[2], g[3], h[0], h[1], h[2], h[3],
     ]
+}
+
+// The same for print!.
+#[derive(Clone, Copy)]
+pub struct IdText(pub LockId);
+
+impl fmt::Display for IdText {
+    fn fmt<W: fmt::Write>(&self, f: &mut fmt::Formatter<W>) -> fmt::Result {
+        for letter in id_text(self.0) {
+            f.write_char(char::from(letter))?;
+        }
+        Ok(())
+    }
 }

@@ -5,7 +5,7 @@
 use mathlib.Core.Path.{◌≡◌, refl, sym, ap, ◌∙◌}
 use mathlib.Core.Bool.{Bool, true, false, cond}
 use mathlib.Core.List.{List, []}
-use mathlib.Core.Option.{Option, none, some}
+use Rattle.std.specs.Prelude.{Option, None, Some}
 use Prim.Native.Nat.{ℕ}
 use lib.Dec.{ltb}
 use lib.ListN.{length}
@@ -17,19 +17,16 @@ use Rattle.state.specs.declared.ActiveLock.{ActiveLock}
 use Rattle.state.specs.declared.LockState.{LockState}
 use Rattle.state.specs.Locks.{has_id, has_id_d, normal}
 use Rattle.state.specs.Model.{Model, model_of, state_of, full}
-use Rattle.rules.specs.declared.Verdict.TheVariants.{Sound}
+use Rattle.std.specs.Prelude.{Result, Ok, Err, ⊤}
 use Rattle.rules.specs.Rules.{broken_rule}
 use Rattle.rules.proofs.Sound.{tidy_of_sound}
-use Rattle.operations.specs.declared.answers.Answer.{Answer}
-use Rattle.operations.specs.declared.answers.Answer.TheVariants.{Done}
-use Rattle.operations.specs.declared.answers.Renewal.{Renewal}
-use Rattle.operations.specs.declared.answers.Renewal.TheVariants as renewal
-use Rattle.operations.specs.declared.answers.Deletion.{Deletion}
-use Rattle.operations.specs.declared.answers.Deletion.TheVariants as deletion
-use Rattle.operations.specs.declared.answers.Expiration.TheVariants as expiration
-use Rattle.operations.specs.declared.answers.Acknowledgement.TheVariants as acknowledgement
-use Rattle.operations.specs.declared.answers.DefunctExpiry.TheVariants as expiry
-use Rattle.operations.specs.declared.answers.Deleted.{Deleted}
+use Rattle.operations.specs.declared.answers.Refusal.{Refusal}
+use Rattle.operations.specs.declared.answers.DeletionRefusal.TheVariants as deletion
+use Rattle.operations.specs.declared.answers.StateRefusal.TheVariants as state_refusal
+use Rattle.operations.specs.declared.answers.RenewalRefusal.{RenewalRefusal}
+use Rattle.operations.specs.declared.answers.DeletionRefusal.{DeletionRefusal}
+use Rattle.operations.specs.declared.answers.Expiration.TheVariants.{Done, NotDue}
+use Rattle.operations.specs.Answers.{Deleted}
 use Rattle.operations.specs.Answers.{is_done}
 use Rattle.operations.specs.Defuncts.{remove_d, remove_all}
 use Rattle.operations.specs.Checks.{at_last_lem}
@@ -56,69 +53,65 @@ either P true p q = p
 either P false p q = q
 
 -- a judgement that is Done tells so
-judged : {A : Type 0} (f : A → Performed) (o : Answer → Outcome) (a : Answer) (d r : A) (out : Bool → List ActiveLock) (n m : Model)
-    → f d ≡ performed (o Done) (out true) [] (state_of n)
+judged : {A : Type 0} (f : A → Performed) (o : Result ⊤ Refusal → Outcome) (a : Result ⊤ Refusal) (d r : A) (out : Bool → List ActiveLock) (n m : Model)
+    → f d ≡ performed (o (Ok tt)) (out true) [] (state_of n)
     → f r ≡ performed (o a) (out false) [] (state_of m)
     → f (cond (is_done a) d r) ≡ performed (o a) (out (is_done a)) [] (state_of (cond (is_done a) n m))
 judged {A} f o a d r out n m p q = go (is_done a) refl
   where
     go : (b : Bool) → is_done a ≡ b → f (cond b d r) ≡ performed (o a) (out b) [] (state_of (cond b n m))
-    go true e = p ∙ ap (λ (x : Answer). performed (o x) (out true) [] (state_of n)) (sym (is_done_lem a e))
+    go true e = p ∙ ap (λ (x : Result ⊤ Refusal). performed (o x) (out true) [] (state_of n)) (sym (is_done_lem a e))
     go false e = q
 
-module _ (s : LockState) (t : s ≡ state_of (model_of s)) (e : broken_rule s ≡ Sound) where
+module _ (s : LockState) (t : s ≡ state_of (model_of s)) (e : broken_rule s ≡ Ok tt) where
   -- the state is left
   left : (o : Outcome) → performed o [] [] s ≡ performed o [] [] (state_of (model_of s))
   left o = ap (λ (x : LockState). performed o [] [] x) t
 
-  renew_agrees : (a : Renewal) (n : Model) → by_renew (settled_renew a s n) ≡ performed (O.Renewed a) [] [] (state_of (after_renewal a (model_of s) n))
-  renew_agrees renewal.Done n = refl
-  renew_agrees (renewal.ActiveLockNotFound i) n = left _
-  renew_agrees renewal.RevisionOverflow n = left _
-  renew_agrees renewal.LockExpired n = left _
-  renew_agrees renewal.RenewalNotExtension n = left _
-  renew_agrees (renewal.UnsoundState m) n = left _
+  renew_agrees : (a : Result ⊤ RenewalRefusal) (n : Model) → by_renew (settled_renew a s n) ≡ performed (O.Renewed a) [] [] (state_of (after_renewal a (model_of s) n))
+  renew_agrees (Ok tt) n = refl
+  renew_agrees (Err why) n = left _
 
   -- a deletion, told in its own words or, "else as delete", in an expiration's
-  delete_agrees : (f : Deleted → Performed) (told : Deletion → Outcome) → ((a : Deletion) (out : List ActiveLock) (x : LockState) → f (deleted a out x) ≡ performed (told a) out [] x)
+  delete_agrees : (f : Deleted → Performed) (told : Result ⊤ DeletionRefusal → Outcome) → ((a : Result ⊤ DeletionRefusal) (out : List ActiveLock) (x : LockState) → f (deleted a out x) ≡ performed (told a) out [] x)
       → (i : LockId) (o : Option ActiveLock)
       → f (delete_found s i o) ≡ performed (told (judge_delete (model_of s) i o)) (out_of (model_of s) o) [] (state_of (after_delete (model_of s) o))
   unfolding delete_found
-  delete_agrees f told same i none = same (deletion.ActiveLockNotFound i) [] s ∙ left _
-  delete_agrees f told same i (some r) =
-      either (λ (b : Bool). f (cond b (deleted deletion.RevisionOverflow [] s) (deleted deletion.Done (tree_out (model_of s) r).gone (state_of (without_tree (model_of s) r))))
-      ≡ performed (told (cond b deletion.RevisionOverflow deletion.Done)) (cond b [] (tree_out (model_of s) r).gone) [] (state_of (cond b (model_of s) (without_tree (model_of s) r))))
-      (at_last_lem s.revision) (same deletion.RevisionOverflow [] s ∙ left _) (same deletion.Done (tree_out (model_of s) r).gone (state_of (without_tree (model_of s) r)))
+  delete_agrees f told same i None = same (Err (deletion.ActiveLockNotFound i)) [] s ∙ left _
+  delete_agrees f told same i (Some r) =
+      either (λ (b : Bool). f (cond b (deleted (Err deletion.RevisionOverflow) [] s) (deleted (Ok tt) (tree_out (model_of s) r).gone (state_of (without_tree (model_of s) r))))
+      ≡ performed (told (cond b (Err deletion.RevisionOverflow) (Ok tt))) (cond b [] (tree_out (model_of s) r).gone) [] (state_of (cond b (model_of s) (without_tree (model_of s) r))))
+      (at_last_lem s.revision) (same (Err deletion.RevisionOverflow) [] s ∙ left _) (same (Ok tt) (tree_out (model_of s) r).gone (state_of (without_tree (model_of s) r)))
 
   expiration_agrees : (i : LockId) (now : ℕ) (o : Option ActiveLock) → find (has_id i) (model_of s).active ≡ o
       → by_expiration (expire_found s i now o)
       ≡ performed (O.ExpirationBegun (judge_expiration (model_of s) i now o)) (due_out_of now (model_of s) o) [] (state_of (after_expiration now (model_of s) o))
   unfolding expire_found
-  expiration_agrees i now none f = left _
-  expiration_agrees i now (some r) f =
-      either (λ (b : Bool). by_expiration (cond b (expired (expiration.NotDue r.expires) [] s) (as_expired (delete_on s i)))
-      ≡ performed (O.ExpirationBegun (cond b (expiration.NotDue r.expires) (as_expiration (judge_delete (model_of s) i (some r))))) (cond b [] (out_of (model_of s) (some r))) []
-      (state_of (cond b (model_of s) (after_delete (model_of s) (some r)))))
+  expiration_agrees i now None f = left _
+  expiration_agrees i now (Some r) f =
+      either (λ (b : Bool). by_expiration (cond b (expired (Ok (NotDue r.expires)) [] s) (as_expired (delete_on s i)))
+      ≡ performed (O.ExpirationBegun (cond b (Ok (NotDue r.expires)) (as_expiration (judge_delete (model_of s) i (Some r))))) (cond b [] (out_of (model_of s) (Some r))) []
+      (state_of (cond b (model_of s) (after_delete (model_of s) (Some r)))))
       (ltb now r.expires) (left _)
       (ap (λ (x : Deleted). by_expiration (as_expired x)) (delete_exactly s e i ∙ ap (delete_found s i) f)
-      ∙ delete_agrees (λ x. by_expiration (as_expired x)) (λ a. O.ExpirationBegun (as_expiration a)) (λ a out x. refl) i (some r))
+      ∙ delete_agrees (λ x. by_expiration (as_expired x)) (λ a. O.ExpirationBegun (as_expiration a)) (λ a out x. refl) i (Some r))
 
   acknowledge_agrees : (b : Bool) (n : Model)
-      → by_acknowledge (cond b (acknowledged_to s (state_of n)) (acknowledged acknowledgement.Absent s))
-      ≡ performed (O.Acknowledged (cond b (cond (at_last_lem s.revision) acknowledgement.RevisionOverflow acknowledgement.Done) acknowledgement.Absent)) [] [] (state_of (cond b n (model_of s)))
+      → by_acknowledge (cond b (acknowledged_to s (state_of n)) (acknowledged (Ok false) s))
+      ≡ performed (O.Acknowledged (cond b (cond (at_last_lem s.revision) (Err state_refusal.RevisionOverflow) (Ok true)) (Ok false))) [] [] (state_of (cond b n (model_of s)))
   unfolding acknowledged_to told_acknowledge
   acknowledge_agrees true n = refl
   acknowledge_agrees false n = left _
 
   -- 8 tells no list; where nothing lapses there is none
   shed_agrees : (b last : Bool) (ids : List LockId) (n : Model) → (b ≡ false → ids ≡ [])
-      → by_expiry (cond b (cond last (shed expiry.RevisionOverflow [] (state_of n)) (shed expiry.Done ids (state_of n))) (shed expiry.Done [] s))
-      ≡ performed (O.DefunctsExpired (cond (b and last) expiry.RevisionOverflow expiry.Done)) [] (cond last [] ids) (state_of (cond b n (model_of s)))
+      → by_expiry (cond b (cond last (shed (Err state_refusal.RevisionOverflow) [] (state_of n)) (shed (Ok tt) ids (state_of n))) (shed (Ok tt) [] s))
+      ≡ performed (O.DefunctsExpired (cond (b and last) (Err state_refusal.RevisionOverflow) (Ok tt))) [] (cond last [] ids) (state_of (cond b n (model_of s)))
   unfolding ◌and◌
   shed_agrees true true ids n e = refl
   shed_agrees true false ids n e = refl
   shed_agrees false true ids n e = left _
-  shed_agrees false false ids n e = left _ ∙ ap (λ (l : List LockId). performed (O.DefunctsExpired expiry.Done) [] l (state_of (model_of s))) (sym (e refl))
+  shed_agrees false false ids n e = left _ ∙ ap (λ (l : List LockId). performed (O.DefunctsExpired (Ok tt)) [] l (state_of (model_of s))) (sym (e refl))
 
   step_agrees : (r : Request) (ws : List ℕ)
       → perform_on s r ws
@@ -145,7 +138,7 @@ module _ (s : LockState) (t : s ≡ state_of (model_of s)) (e : broken_rule s �
       (λ n. ap ids_of_entries (filter_none (lapsed now) (model_of s).defunct n))
 
 -- of an accepted state whose arrays have their lengths
-module _ (s : LockState) (la : length s.active ≡ 64) (ld : length s.defunct ≡ 128) (e : broken_rule s ≡ Sound) where
+module _ (s : LockState) (la : length s.active ≡ 64) (ld : length s.defunct ≡ 128) (e : broken_rule s ≡ Ok tt) where
   pub exactly : (r : Request) (ws : List ℕ)
       → perform_on s r ws
       ≡ performed (outcome_in full (model_of s) (op_of r ws)) (removed_in full (model_of s) (op_of r ws)) (lapsed_in (model_of s) (op_of r ws)) (state_of (step full (model_of s) (op_of r ws)))

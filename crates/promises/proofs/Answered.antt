@@ -4,7 +4,7 @@
 use mathlib.Core.Path.{◌≡◌, refl, ap, ◌∙◌}
 use mathlib.Core.Bool.{Bool, true, false, cond}
 use mathlib.Core.List.{List, [], ◌∷◌}
-use mathlib.Core.Option.{Option, none, some}
+use Rattle.std.specs.Prelude.{Option, None, Some}
 use Prim.Native.Nat.{ℕ}
 use Rattle.lists.specs.Tests.{Yes, No}
 use Rattle.lists.specs.Lists.{find, filter}
@@ -15,8 +15,9 @@ use Rattle.state.specs.declared.ActiveLock.{ActiveLock}
 use Rattle.state.specs.declared.DefunctLock.{DefunctLock}
 use Rattle.state.specs.Locks.{has_id}
 use Rattle.state.specs.Model.{Model, Limits}
-use Rattle.operations.specs.declared.answers.Answer.{Answer}
-use Rattle.operations.specs.declared.answers.Answer.TheVariants.{Done, DuplicateId, DuplicateScope, ActiveLockNotFound, ParentNotFound, ParentNotVehicle, ReplacementScopeConflict, CoverageConflict, RevisionOverflow, NotRootVehicle, BadChild, OtherOwner, NotCovered, Invariant, UnsoundState, NoRoom, BadList}
+use Rattle.std.specs.Prelude.{Result, Ok, Err, ⊤}
+use Rattle.operations.specs.declared.answers.Refusal.{Refusal}
+use Rattle.operations.specs.declared.answers.Refusal.TheVariants.{DuplicateId, DuplicateScope, ActiveLockNotFound, ParentNotFound, ParentNotVehicle, ReplacementScopeConflict, CoverageConflict, RevisionOverflow, NotRootVehicle, BadChild, OtherOwner, NotCovered, Invariant, UnsoundState, NoRoom, BadList}
 use Rattle.operations.specs.Answers.{is_done, refuse_if, and_then, first_refusal}
 use Rattle.operations.specs.Trees.{is_listed}
 use Rattle.operations.specs.Checks.{check_list, check_id, check_scope, conflicts, check_conflict, check_clear, check_revision, check_room, check_root, check_active, check_free, check_listed, check_owner, check_cover, check_child, check_holder}
@@ -31,62 +32,62 @@ pub differ : {A : Type 0} (p : A → Bool) {a b : A} → No (p a) → Yes (p b) 
 differ p f t e = against f (ap p e ∙ t)
 
 -- an answer of none of the checks before 13; where odd is true 14 counts as one too
-abbrev pub foreign_if : Bool → Answer → Bool
-foreign_if odd Done = false
-foreign_if odd (DuplicateId i) = false
-foreign_if odd DuplicateScope = false
-foreign_if odd (ActiveLockNotFound i) = false
-foreign_if odd (ParentNotFound i) = false
-foreign_if odd (ParentNotVehicle i) = false
-foreign_if odd ReplacementScopeConflict = false
-foreign_if odd (CoverageConflict i at) = false
-foreign_if odd RevisionOverflow = false
-foreign_if odd NotRootVehicle = false
-foreign_if odd (BadChild i) = false
-foreign_if odd (OtherOwner i j) = false
-foreign_if odd (NotCovered i j) = false
-foreign_if odd Invariant = true
-foreign_if odd (UnsoundState n) = true
-foreign_if odd NoRoom = true
-foreign_if odd BadList = odd
+abbrev pub foreign_if : Bool → Result ⊤ Refusal → Bool
+foreign_if odd (Ok tt) = false
+foreign_if odd (Err (DuplicateId i)) = false
+foreign_if odd (Err DuplicateScope) = false
+foreign_if odd (Err (ActiveLockNotFound i)) = false
+foreign_if odd (Err (ParentNotFound i)) = false
+foreign_if odd (Err (ParentNotVehicle i)) = false
+foreign_if odd (Err ReplacementScopeConflict) = false
+foreign_if odd (Err (CoverageConflict i at)) = false
+foreign_if odd (Err RevisionOverflow) = false
+foreign_if odd (Err NotRootVehicle) = false
+foreign_if odd (Err (BadChild i)) = false
+foreign_if odd (Err (OtherOwner i j)) = false
+foreign_if odd (Err (NotCovered i j)) = false
+foreign_if odd (Err Invariant) = true
+foreign_if odd (Err (UnsoundState n)) = true
+foreign_if odd (Err NoRoom) = true
+foreign_if odd (Err BadList) = odd
 
-abbrev pub foreign : Answer → Bool
+abbrev pub foreign : Result ⊤ Refusal → Bool
 foreign = foreign_if false
 
 -- no check gives it
 module _ (odd : Bool) where
-  if_not : (c : Bool) (a b : Answer) → No (foreign_if odd a) → No (foreign_if odd b) → No (foreign_if odd (cond c a b))
-  if_not c a b f g = cond_both (λ (r : Answer). No (foreign_if odd r)) a b c (λ t. f) (λ t. g)
+  if_not : (c : Bool) (a b : Result ⊤ Refusal) → No (foreign_if odd a) → No (foreign_if odd b) → No (foreign_if odd (cond c a b))
+  if_not c a b f g = cond_both (λ (r : Result ⊤ Refusal). No (foreign_if odd r)) a b c (λ t. f) (λ t. g)
 
-  refuse_not : (c : Bool) (a b : Answer) → No (foreign_if odd a) → No (foreign_if odd b) → No (foreign_if odd (refuse_if c a b))
+  refuse_not : (c : Bool) (a b : Result ⊤ Refusal) → No (foreign_if odd a) → No (foreign_if odd b) → No (foreign_if odd (refuse_if c a b))
   unfolding refuse_if
   refuse_not = if_not
 
-  then_not : (a b : Answer) → No (foreign_if odd a) → No (foreign_if odd b) → No (foreign_if odd (and_then a b))
+  then_not : (a b : Result ⊤ Refusal) → No (foreign_if odd a) → No (foreign_if odd b) → No (foreign_if odd (and_then a b))
   unfolding and_then
   then_not a b f g = if_not (is_done a) b a g f
 
   nesting_not : (l : List ActiveLock) (x : ActiveLock) → No (foreign_if odd (check_nesting l x))
   unfolding check_nesting check_parent
-  nesting_not l x = if_not x.child _ Done (go (find (has_id x.parent) l)) refl
+  nesting_not l x = if_not x.child _ (Ok tt) (go (find (has_id x.parent) l)) refl
     where
       go : (o : Option ActiveLock) → No (foreign_if odd (check_found x o))
-      go none = refl
-      go (some p) = refuse_not _ _ _ refl (refuse_not _ _ _ refl (refuse_not _ _ _ refl refl))
+      go None = refl
+      go (Some p) = refuse_not _ _ _ refl (refuse_not _ _ _ refl (refuse_not _ _ _ refl refl))
 
   clear_not : (l : List ActiveLock) (x : ActiveLock) → No (foreign_if odd (check_clear l x))
   unfolding check_clear
   clear_not l x = go (find (conflicts x) l)
     where
       go : (o : Option ActiveLock) → No (foreign_if odd (check_conflict x o))
-      go none = refl
-      go (some a) = refl
+      go None = refl
+      go (Some a) = refl
 
   insert_not : (l : List ActiveLock) (x : ActiveLock) → No (foreign_if odd (check_insert l x))
   unfolding check_insert check_scope
   insert_not l x = then_not _ _ (refuse_not _ _ _ refl refl) (then_not _ _ (nesting_not l x) (clear_not l x))
 
-  first_not : {A : Type 0} (c : A → Answer) → ((a : A) → No (foreign_if odd (c a))) → (l : List A) → No (foreign_if odd (first_refusal c l))
+  first_not : {A : Type 0} (c : A → Result ⊤ Refusal) → ((a : A) → No (foreign_if odd (c a))) → (l : List A) → No (foreign_if odd (first_refusal c l))
   first_not c f [] = refl
   first_not c f (a ∷ l) = then_not _ _ (f a) (first_not c f l)
 
@@ -107,7 +108,7 @@ module _ (odd : Bool) where
   entry_not l t ws x = then_not _ _ (first_not (check_active l) (active_not l) (ascending_ids ws)) (then_not _ _ (refuse_not _ _ _ refl refl) (refuse_not _ _ _ refl refl))
 
 -- ---- chains
-pub then_assoc : (a b c : Answer) → and_then a (and_then b c) ≡ and_then (and_then a b) c
+pub then_assoc : (a b c : Result ⊤ Refusal) → and_then a (and_then b c) ≡ and_then (and_then a b) c
 unfolding and_then
 then_assoc a b c = go (is_done a) refl
   where
@@ -116,15 +117,15 @@ then_assoc a b c = go (is_done a) refl
     go false e = rw e
 
 -- the checks before 13
-abbrev pub before_insert : Model → ActiveLock → Answer
+abbrev pub before_insert : Model → ActiveLock → Result ⊤ Refusal
 before_insert m x = and_then (and_then (check_id m.active m.defunct x) (check_insert m.active x)) (check_revision m.revision)
 
-abbrev pub before_vehicle : Model → ActiveLock → List ℕ → Answer
+abbrev pub before_vehicle : Model → ActiveLock → List ℕ → Result ⊤ Refusal
 before_vehicle m x ws =
     and_then (and_then (and_then (and_then (and_then (and_then (check_list ws) (check_root x)) (first_refusal (check_listed m.active) (ascending_ids ws))) (check_id m.active m.defunct x)) (check_scope m.active x)) (check_revision m.revision))
     (first_refusal (check_child x) (filter (is_listed ws) m.active))
 
-abbrev pub before_replace : Model → List ℕ → ActiveLock → Answer
+abbrev pub before_replace : Model → List ℕ → ActiveLock → Result ⊤ Refusal
 before_replace m ws x =
     and_then (and_then (and_then (and_then (check_list ws) (check_entry m.active m.defunct ws x)) (check_insert (cut_of m ws).kept x)) (check_revision m.revision))
     (first_refusal (check_child x) (filter (orphan x) (cut_of m ws).kept))

@@ -5,7 +5,7 @@ use mathlib.Core.Path.{◌≡◌, refl, sym, subst}
 use mathlib.Core.Bool.{Bool}
 use mathlib.Core.List.Memᴰ
 use mathlib.Core.List.{List, [], ◌∷◌, map, Memᴰ}
-use mathlib.Core.Option.{Option, none, some}
+use Rattle.std.specs.Prelude.{Option, None, Some}
 use mathlib.Core.Logic.{inl, inr}
 use Prim.Native.Nat.{ℕ}
 use Rattle.lists.specs.Tests.{non, Yes}
@@ -39,9 +39,9 @@ module _ (P : ActiveLock → Type 0) (Q : DefunctLock → Type 0)
   All t = (d : DefunctLock) → Mem d t → Q d
 
   -- ---- entries
-  drop_holds : (t : List DefunctLock) (o : Option DefunctLock) → ((g : DefunctLock) → o ≡ some g → Mem g t) → All t → All (drop_found o t)
-  drop_holds t none there h d u = h d u
-  drop_holds t (some g) there h d u =
+  drop_holds : (t : List DefunctLock) (o : Option DefunctLock) → ((g : DefunctLock) → o ≡ Some g → Mem g t) → All t → All (drop_found o t)
+  drop_holds t None there h d u = h d u
+  drop_holds t (Some g) there h d u =
       let w = Memᴰ.of_map (redirect g) (filter (other g) t) u in
       subst Q w.2 (redirects g w.0 (h g (there g refl)) (h w.0 (filter→ (other g) t w.1).0))
 

@@ -4,7 +4,7 @@ use mathlib.Core.Path.{◌≡◌, refl, sym, ap, ◌∙◌}
 use mathlib.Core.Bool.{Bool, true, false, false≢true}
 use mathlib.Core.List.Memᴰ
 use mathlib.Core.List.{List, [], ◌∷◌}
-use mathlib.Core.Option.{Option, none, some}
+use Rattle.std.specs.Prelude.{Option, None, Some}
 use mathlib.Core.Logic.{inl, inr}
 use Prim.Native.Nat.{ℕ}
 use lib.Dec.{eqb}
@@ -22,8 +22,8 @@ use Rattle.state.specs.declared.DefunctLock.{DefunctLock}
 use Rattle.state.specs.Locks.{akey, dkey, is_vehicle, same_scope, has_id, has_id_d}
 use Rattle.state.specs.Model.{Model, Limits, fits}
 use Rattle.lookups.specs.Reads.{on_scope}
-use Rattle.operations.specs.declared.answers.Answer.{Answer}
-use Rattle.operations.specs.declared.answers.Answer.TheVariants.{Done}
+use Rattle.std.specs.Prelude.{Result, Ok, ⊤}
+use Rattle.operations.specs.declared.answers.Refusal.{Refusal}
 use Rattle.operations.specs.Answers.{is_done, first_refusal}
 use Rattle.operations.specs.Trees.{is_listed}
 use Rattle.operations.specs.Checks.{check_id, check_scope, conflicts, check_clear, check_room, check_root, missing, check_active, settled_lock, check_free, check_listed, check_owner, check_cover, check_child}
@@ -53,11 +53,11 @@ scope_ok l x e a u t = against (went_on _ _ _ refl e).0 (→any (on_scope x.lock
 -- ---- 4, 5, 11.3, 11.4
 pub nest_ok : (l : List ActiveLock) (x : ActiveLock) → Yes (is_done (check_nesting l x)) → Yes x.child → (p : ActiveLock) × Parent l x p
 unfolding check_nesting check_parent has_id is_done
-nest_ok l x e c = go (find (has_id x.parent) l) refl (rw (cond_true x.child (check_found x (find (has_id x.parent) l)) Done c) at e)
+nest_ok l x e c = go (find (has_id x.parent) l) refl (rw (cond_true x.child (check_found x (find (has_id x.parent) l)) (Ok tt) c) at e)
   where
     go : (o : Option ActiveLock) → find (has_id x.parent) l ≡ o → Yes (is_done (check_found x o)) → (p : ActiveLock) × Parent l x p
-    go none q e = absurd (false≢true e)
-    go (some p) q e =
+    go None q e = absurd (false≢true e)
+    go (Some p) q e =
         let h1 = went_on _ _ _ refl e in
         let h2 = went_on _ _ _ refl h1.1 in
         let h3 = went_on _ _ _ refl h2.1 in
@@ -80,7 +80,7 @@ unfolding check_root is_done
 root_ok x e = let h = or_no _ _ (went_on _ _ _ refl e).0 in (non_no _ h.0, h.1)
 
 -- ---- where nothing of a list is refused, each passes
-all_passed : {A : Type 0} (c : A → Answer) (l : List A) → Yes (is_done (first_refusal c l)) → {a : A} → Mem a l → Yes (is_done (c a))
+all_passed : {A : Type 0} (c : A → Result ⊤ Refusal) (l : List A) → Yes (is_done (first_refusal c l)) → {a : A} → Mem a l → Yes (is_done (c a))
 all_passed {A = A} c [] e {a = a} x'' = elim x'' [ ]
 all_passed c (x ∷ l) e (Memᴰ.head q) = rw q (then_done _ _ e).0
 all_passed c (x ∷ l) e (Memᴰ.tail m) = all_passed c l (then_done _ _ e).1 m

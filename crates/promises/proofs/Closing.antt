@@ -6,7 +6,10 @@
 use mathlib.Core.Path.{◌≡◌, refl, sym, ◌∙◌}
 use mathlib.Core.Bool.{Bool, true, false, cond}
 use mathlib.Core.List.{List, []}
-use mathlib.Core.Option.{Option, none, some}
+use Rattle.operations.specs.declared.answers.StateRefusal.TheVariants as state_refusal
+use Rattle.operations.specs.declared.answers.DeletionRefusal.TheVariants as deletion
+use Rattle.operations.specs.declared.answers.RenewalRefusal.TheVariants as renewal
+use Rattle.std.specs.Prelude.{Option, None, Some}
 use Prim.Native.Nat.{ℕ}
 use lib.Dec.{ltb, eqb}
 use Rattle.lists.specs.Tests.{non, Yes, No}
@@ -17,31 +20,27 @@ use Rattle.state.specs.declared.ActiveLock.{ActiveLock}
 use Rattle.state.specs.declared.LockState.{LockState}
 use Rattle.state.specs.Locks.{has_id, has_id_d, normal}
 use Rattle.state.specs.Model.{Model, model_of, state_of, Limits, full, fits}
-use Rattle.rules.specs.declared.Verdict.{Verdict}
-use Rattle.rules.specs.declared.Verdict.TheVariants.{Sound, Broken}
+use Rattle.std.specs.Prelude.{Result, Ok, Err, ⊤}
+use Rattle.rules.specs.declared.Unsound.{Unsound}
+use Rattle.rules.specs.declared.Unsound.TheVariants.{Rule}
 use Rattle.rules.specs.Rules.{broken_rule, sound}
 use Rattle.rules.proofs.Sound.{sound_of, sound_state}
 use Rattle.lookups.specs.Reads.{by_verdict, on_sound}
 use Rattle.lookups.proofs.Verdicts.{on_sound_lem}
-use Rattle.operations.specs.declared.answers.Answer.{Answer}
-use Rattle.operations.specs.declared.answers.Answer.TheVariants.{Done, Invariant, UnsoundState, NoRoom}
-use Rattle.operations.specs.declared.answers.Renewal.{Renewal}
-use Rattle.operations.specs.declared.answers.Renewal.TheVariants as renewal
-use Rattle.operations.specs.declared.answers.Deletion.{Deletion}
-use Rattle.operations.specs.declared.answers.Deletion.TheVariants as deletion
+use Rattle.operations.specs.declared.answers.Refusal.{Refusal}
+use Rattle.operations.specs.declared.answers.Refusal.TheVariants.{ActiveLockNotFound, RevisionOverflow, Invariant, UnsoundState, NoRoom}
+use Rattle.operations.specs.declared.answers.RenewalRefusal.{RenewalRefusal}
+use Rattle.operations.specs.declared.answers.DeletionRefusal.{DeletionRefusal}
+use Rattle.operations.specs.declared.answers.StateRefusal.{StateRefusal}
 use Rattle.operations.specs.declared.answers.Expiration.{Expiration}
-use Rattle.operations.specs.declared.answers.Expiration.TheVariants as expiration
-use Rattle.operations.specs.declared.answers.Acknowledgement.{Acknowledgement}
-use Rattle.operations.specs.declared.answers.Acknowledgement.TheVariants as acknowledgement
-use Rattle.operations.specs.declared.answers.DefunctExpiry.{DefunctExpiry}
-use Rattle.operations.specs.declared.answers.DefunctExpiry.TheVariants as expiry
-use Rattle.operations.specs.declared.answers.Inserted.{Inserted}
-use Rattle.operations.specs.declared.answers.Replaced.{Replaced}
-use Rattle.operations.specs.declared.answers.Renewed.{Renewed}
-use Rattle.operations.specs.declared.answers.Deleted.{Deleted}
-use Rattle.operations.specs.declared.answers.Expired.{Expired}
-use Rattle.operations.specs.declared.answers.Acknowledged.{Acknowledged}
-use Rattle.operations.specs.declared.answers.DefunctsExpired.{DefunctsExpired}
+use Rattle.operations.specs.declared.answers.Expiration.TheVariants.{Done, Stale, NotDue}
+use Rattle.operations.specs.Answers.{Inserted}
+use Rattle.operations.specs.Answers.{Replaced}
+use Rattle.operations.specs.Answers.{Renewed}
+use Rattle.operations.specs.Answers.{Deleted}
+use Rattle.operations.specs.Answers.{Expired}
+use Rattle.operations.specs.Answers.{Acknowledged}
+use Rattle.operations.specs.Answers.{DefunctsExpired}
 use Rattle.operations.specs.Answers.{is_done, paper_of, refuse_if, and_then}
 use Rattle.operations.specs.Defuncts.{remove_d, remove_all}
 use Rattle.operations.specs.Checks.{at_last_lem, check_room}
@@ -57,26 +56,26 @@ use Rattle.promises.proofs.Answered.{differ, foreign, insert_parts, vehicle_part
 use Rattle.promises.proofs.Every.{normal_neat}
 
 -- ---- an answer to a state, by its verdict
-pub by_verdict_lem : {A : Type 0} (P : A → Type 0) (s : LockState) (u : ℕ → A) (a : A) → ((n : ℕ) → P (u n)) → (broken_rule s ≡ Sound → P a) → P (on_sound s u a)
+pub by_verdict_lem : {A : Type 0} (P : A → Type 0) (s : LockState) (u : ℕ → A) (a : A) → ((n : ℕ) → P (u n)) → (broken_rule s ≡ Ok tt → P a) → P (on_sound s u a)
 unfolding on_sound
 by_verdict_lem {A} P s u a f g = go (broken_rule s) refl
   where
-    go : (v : Verdict) → broken_rule s ≡ v → P (by_verdict v u a)
-    go Sound e = g e
-    go (Broken n) e = f n
+    go : (v : Result ⊤ Unsound) → broken_rule s ≡ v → P (by_verdict v u a)
+    go (Ok tt) e = g e
+    go (Err (Rule n)) e = f n
 
 -- ---- no judgement is the closing check's answer
-judge_not : (k : Limits) (a : Answer) (n : Model) → No (foreign a) → and_then a (check_room k n) ≡ Invariant → ⊥
+judge_not : (k : Limits) (a : Result ⊤ Refusal) (n : Model) → No (foreign a) → and_then a (check_room k n) ≡ Err Invariant → ⊥
 unfolding and_then check_room refuse_if paper_of
 judge_not k a n f =
-    cond_both (λ (r : Answer). r ≡ Invariant → ⊥) _ a (is_done a)
-    (λ t. cond_both (λ (r : Answer). r ≡ Invariant → ⊥) NoRoom Done (non (fits k n)) (λ u. differ (λ r. eqb (paper_of r).number 11) refl refl) (λ u. differ foreign refl refl))
+    cond_both (λ (r : Result ⊤ Refusal). r ≡ Err Invariant → ⊥) _ a (is_done a)
+    (λ t. cond_both (λ (r : Result ⊤ Refusal). r ≡ Err Invariant → ⊥) (Err NoRoom) (Ok tt) (non (fits k n)) (λ u. differ (λ r. eqb (paper_of r).number 11) refl refl) (λ u. differ foreign refl refl))
     (λ t. differ foreign f refl)
 
 -- ---- what each operation comes to: a refusal other than Invariant that leaves the state, or, from a sound state, the done
 -- result, whose state is sound
 -- an insertion's or a replacement's judgement is followed by exactly the done result or the refusal
-settled : {A : Type 0} (k : Limits) (a : Answer) (m : Model) (d e r : A) → (a ≡ Done → Yes (sound k m))
+settled : {A : Type 0} (k : Limits) (a : Result ⊤ Refusal) (m : Model) (d e r : A) → (a ≡ Ok tt → Yes (sound k m))
     → cond (is_done a) (cond (sound k m) d e) r ≡ cond (is_done a) d r
 settled {A} k a m d e r keep = go (is_done a) refl
   where
@@ -85,48 +84,48 @@ settled {A} k a m d e r keep = go (is_done a) refl
     go false q = refl
 
 -- under any limits that hold the state
-module _ (k : Limits) (s : LockState) (e : broken_rule s ≡ Sound) (t : Yes (sound k (model_of s))) where
+module _ (k : Limits) (s : LockState) (e : broken_rule s ≡ Ok tt) (t : Yes (sound k (model_of s))) where
   pub insert_with : (y : ActiveLock)
       → insert_active_with k s y
-      ≡ cond (is_done (judge_insert k (model_of s) (normal y))) (inserted Done (state_of (inserted_in (model_of s) (normal y)))) (inserted (judge_insert k (model_of s) (normal y)) s)
+      ≡ cond (is_done (judge_insert k (model_of s) (normal y))) (inserted (Ok tt) (state_of (inserted_in (model_of s) (normal y)))) (inserted (judge_insert k (model_of s) (normal y)) s)
   unfolding insert_active_with settled_insert closed_insert
   insert_with y = sym (on_sound_lem s _ _ (broken_rule s) refl e) ∙ settled k _ _ _ _ _ (insert_keeps k (model_of s) (normal y) (normal_neat y) t)
 
   pub vehicle_with : (y : ActiveLock) (ws : List ℕ)
       → insert_vehicle_with k s y ws
-      ≡ cond (is_done (judge_vehicle k (model_of s) (normal y) ws)) (inserted Done (state_of (vehicle_in (model_of s) (normal y) ws))) (inserted (judge_vehicle k (model_of s) (normal y) ws) s)
+      ≡ cond (is_done (judge_vehicle k (model_of s) (normal y) ws)) (inserted (Ok tt) (state_of (vehicle_in (model_of s) (normal y) ws))) (inserted (judge_vehicle k (model_of s) (normal y) ws) s)
   unfolding insert_vehicle_with settled_insert closed_insert
   vehicle_with y ws = sym (on_sound_lem s _ _ (broken_rule s) refl e) ∙ settled k _ _ _ _ _ (vehicle_keeps k (model_of s) (normal y) ws (normal_neat y) t)
 
   pub replace_with : (ws : List ℕ) (y : ActiveLock) (by at : ℕ)
       → commit_replacement_with k s ws y by at
-      ≡ cond (is_done (judge_replace k (model_of s) ws (normal y) by at)) (replaced Done (cut_of (model_of s) ws).gone (state_of (replaced_in (model_of s) ws (normal y) by at)))
+      ≡ cond (is_done (judge_replace k (model_of s) ws (normal y) by at)) (replaced (Ok tt) (cut_of (model_of s) ws).gone (state_of (replaced_in (model_of s) ws (normal y) by at)))
       (replaced (judge_replace k (model_of s) ws (normal y) by at) [] s)
   unfolding commit_replacement_with settled_replace closed_replace
   replace_with ws y by at = sym (on_sound_lem s _ _ (broken_rule s) refl e) ∙ settled k _ _ _ _ _ (replace_keeps k (model_of s) ws (normal y) by at (normal_neat y) t)
 
 -- and at 64 and 128
-pub insert_exactly : (s : LockState) (y : ActiveLock) → broken_rule s ≡ Sound
+pub insert_exactly : (s : LockState) (y : ActiveLock) → broken_rule s ≡ Ok tt
     → insert_active_on s y
-    ≡ cond (is_done (judge_insert full (model_of s) (normal y))) (inserted Done (state_of (inserted_in (model_of s) (normal y)))) (inserted (judge_insert full (model_of s) (normal y)) s)
+    ≡ cond (is_done (judge_insert full (model_of s) (normal y))) (inserted (Ok tt) (state_of (inserted_in (model_of s) (normal y)))) (inserted (judge_insert full (model_of s) (normal y)) s)
 unfolding insert_active_on
 insert_exactly s y e = insert_with full s e (sound_of s e) y
 
-pub vehicle_exactly : (s : LockState) (y : ActiveLock) (ws : List ℕ) → broken_rule s ≡ Sound
+pub vehicle_exactly : (s : LockState) (y : ActiveLock) (ws : List ℕ) → broken_rule s ≡ Ok tt
     → insert_vehicle_on s y ws
-    ≡ cond (is_done (judge_vehicle full (model_of s) (normal y) ws)) (inserted Done (state_of (vehicle_in (model_of s) (normal y) ws))) (inserted (judge_vehicle full (model_of s) (normal y) ws) s)
+    ≡ cond (is_done (judge_vehicle full (model_of s) (normal y) ws)) (inserted (Ok tt) (state_of (vehicle_in (model_of s) (normal y) ws))) (inserted (judge_vehicle full (model_of s) (normal y) ws) s)
 unfolding insert_vehicle_on
 vehicle_exactly s y ws e = vehicle_with full s e (sound_of s e) y ws
 
-pub replace_exactly : (s : LockState) (ws : List ℕ) (y : ActiveLock) (by at : ℕ) → broken_rule s ≡ Sound
+pub replace_exactly : (s : LockState) (ws : List ℕ) (y : ActiveLock) (by at : ℕ) → broken_rule s ≡ Ok tt
     → commit_replacement_on s ws y by at
-    ≡ cond (is_done (judge_replace full (model_of s) ws (normal y) by at)) (replaced Done (cut_of (model_of s) ws).gone (state_of (replaced_in (model_of s) ws (normal y) by at)))
+    ≡ cond (is_done (judge_replace full (model_of s) ws (normal y) by at)) (replaced (Ok tt) (cut_of (model_of s) ws).gone (state_of (replaced_in (model_of s) ws (normal y) by at)))
     (replaced (judge_replace full (model_of s) ws (normal y) by at) [] s)
 unfolding commit_replacement_on
 replace_exactly s ws y by at e = replace_with full s e (sound_of s e) ws y by at
 
 -- the five that make no closing check: what stands after the test at entry
-module _ (s : LockState) (e : broken_rule s ≡ Sound) where
+module _ (s : LockState) (e : broken_rule s ≡ Ok tt) where
   pub renew_exactly : (i : LockId) (t now : ℕ) (has : Bool) (d : ℕ)
       → renew_on s i t now has d ≡ settled_renew (judge_renew (model_of s) i t now) s (renewed_in (model_of s) i t has d)
   unfolding renew_on
@@ -142,7 +141,7 @@ module _ (s : LockState) (e : broken_rule s ≡ Sound) where
 
   pub acknowledge_exactly : (i : LockId)
       → acknowledge_on s i
-      ≡ cond (any (has_id_d i) (model_of s).defunct) (acknowledged_to s (state_of (shed_in (model_of s) (remove_d i (model_of s).defunct)))) (acknowledged acknowledgement.Absent s)
+      ≡ cond (any (has_id_d i) (model_of s).defunct) (acknowledged_to s (state_of (shed_in (model_of s) (remove_d i (model_of s).defunct)))) (acknowledged (Ok false) s)
   unfolding acknowledge_on
   acknowledge_exactly i = sym (on_sound_lem s _ _ (broken_rule s) refl e)
 
@@ -150,116 +149,112 @@ module _ (s : LockState) (e : broken_rule s ≡ Sound) where
       → expire_defunct_on s now
       ≡ cond (any (lapsed now) (model_of s).defunct)
       (shed_to s (ids_of_entries (lapsed_of now (model_of s))) (state_of (shed_in (model_of s) (remove_all (lapsed_of now (model_of s)) (model_of s).defunct))))
-      (shed expiry.Done [] s)
+      (shed (Ok tt) [] s)
   unfolding expire_defunct_on
   expire_exactly now = sym (on_sound_lem s _ _ (broken_rule s) refl e)
 
 -- and so what holds of both holds of the operation
-judged : {A : Type 0} (P : A → Type 0) (a : Answer) (m : Model) (d e r : A) → (a ≡ Done → Yes (sound full m))
-    → (a ≡ Done → broken_rule (state_of m) ≡ Sound → P d) → P r → P (cond (is_done a) (cond (sound full m) d e) r)
+judged : {A : Type 0} (P : A → Type 0) (a : Result ⊤ Refusal) (m : Model) (d e r : A) → (a ≡ Ok tt → Yes (sound full m))
+    → (a ≡ Ok tt → broken_rule (state_of m) ≡ Ok tt → P d) → P r → P (cond (is_done a) (cond (sound full m) d e) r)
 judged P a m d e r keep f g = cond_both P _ r (is_done a) (λ t. let q = is_done_lem a t in rw (cond_true (sound full m) d e (keep q)) (f q (sound_state m (keep q)))) (λ t. g)
 
-unsound_not : (n : ℕ) → UnsoundState n ≡ Invariant → ⊥
+unsound_not : (n : ℕ) → ◌≡◌ {A = Result ⊤ Refusal} (Err (UnsoundState n)) (Err Invariant) → ⊥
 unfolding paper_of
 unsound_not n = differ (λ r. eqb (paper_of r).number 11) refl refl
 
-pub insert_active_comes : (P : Inserted → Type 0) (s : LockState) (y : ActiveLock) → ((b : Answer) → (b ≡ Invariant → ⊥) → P (inserted b s))
-    → (judge_insert full (model_of s) (normal y) ≡ Done → broken_rule (state_of (inserted_in (model_of s) (normal y))) ≡ Sound → P (inserted Done (state_of (inserted_in (model_of s) (normal y)))))
+pub insert_active_comes : (P : Inserted → Type 0) (s : LockState) (y : ActiveLock) → ((b : Result ⊤ Refusal) → (b ≡ Err Invariant → ⊥) → P (inserted b s))
+    → (judge_insert full (model_of s) (normal y) ≡ Ok tt → broken_rule (state_of (inserted_in (model_of s) (normal y))) ≡ Ok tt → P (inserted (Ok tt) (state_of (inserted_in (model_of s) (normal y)))))
     → P (insert_active_on s y)
 unfolding insert_active_on insert_active_with settled_insert closed_insert
 insert_active_comes P s y refused through =
-    by_verdict_lem P s _ _ (λ n. refused (UnsoundState n) (unsound_not n)) (λ e.
+    by_verdict_lem P s _ _ (λ n. refused (Err (UnsoundState n)) (unsound_not n)) (λ e.
     judged P _ _ _ _ _ (insert_keeps full (model_of s) (normal y) (normal_neat y) (sound_of s e)) through
     (refused _ (λ q. judge_not full _ _ (insert_own (model_of s) (normal y)) (sym (insert_parts (model_of s) full (normal y)) ∙ q))))
 
-pub insert_vehicle_comes : (P : Inserted → Type 0) (s : LockState) (y : ActiveLock) (ws : List ℕ) → ((b : Answer) → (b ≡ Invariant → ⊥) → P (inserted b s))
-    → (judge_vehicle full (model_of s) (normal y) ws ≡ Done → broken_rule (state_of (vehicle_in (model_of s) (normal y) ws)) ≡ Sound → P (inserted Done (state_of (vehicle_in (model_of s) (normal y) ws))))
+pub insert_vehicle_comes : (P : Inserted → Type 0) (s : LockState) (y : ActiveLock) (ws : List ℕ) → ((b : Result ⊤ Refusal) → (b ≡ Err Invariant → ⊥) → P (inserted b s))
+    → (judge_vehicle full (model_of s) (normal y) ws ≡ Ok tt → broken_rule (state_of (vehicle_in (model_of s) (normal y) ws)) ≡ Ok tt → P (inserted (Ok tt) (state_of (vehicle_in (model_of s) (normal y) ws))))
     → P (insert_vehicle_on s y ws)
 unfolding insert_vehicle_on insert_vehicle_with settled_insert closed_insert
 insert_vehicle_comes P s y ws refused through =
-    by_verdict_lem P s _ _ (λ n. refused (UnsoundState n) (unsound_not n)) (λ e.
+    by_verdict_lem P s _ _ (λ n. refused (Err (UnsoundState n)) (unsound_not n)) (λ e.
     judged P _ _ _ _ _ (vehicle_keeps full (model_of s) (normal y) ws (normal_neat y) (sound_of s e)) through
     (refused _ (λ q. judge_not full _ _ (vehicle_own (model_of s) (normal y) ws) (sym (vehicle_parts (model_of s) full (normal y) ws) ∙ q))))
 
-pub replace_comes : (P : Replaced → Type 0) (s : LockState) (ws : List ℕ) (y : ActiveLock) (by at : ℕ) → ((b : Answer) → (b ≡ Invariant → ⊥) → P (replaced b [] s))
-    → (judge_replace full (model_of s) ws (normal y) by at ≡ Done → broken_rule (state_of (replaced_in (model_of s) ws (normal y) by at)) ≡ Sound
-    → P (replaced Done (cut_of (model_of s) ws).gone (state_of (replaced_in (model_of s) ws (normal y) by at))))
+pub replace_comes : (P : Replaced → Type 0) (s : LockState) (ws : List ℕ) (y : ActiveLock) (by at : ℕ) → ((b : Result ⊤ Refusal) → (b ≡ Err Invariant → ⊥) → P (replaced b [] s))
+    → (judge_replace full (model_of s) ws (normal y) by at ≡ Ok tt → broken_rule (state_of (replaced_in (model_of s) ws (normal y) by at)) ≡ Ok tt
+    → P (replaced (Ok tt) (cut_of (model_of s) ws).gone (state_of (replaced_in (model_of s) ws (normal y) by at))))
     → P (commit_replacement_on s ws y by at)
 unfolding commit_replacement_on commit_replacement_with settled_replace closed_replace
 replace_comes P s ws y by at refused through =
-    by_verdict_lem P s _ _ (λ n. refused (UnsoundState n) (unsound_not n)) (λ e.
+    by_verdict_lem P s _ _ (λ n. refused (Err (UnsoundState n)) (unsound_not n)) (λ e.
     judged P _ _ _ _ _ (replace_keeps full (model_of s) ws (normal y) by at (normal_neat y) (sound_of s e)) through
     (refused _ (λ q. judge_not full _ _ (replace_own (model_of s) ws (normal y)) (sym (replace_parts (model_of s) full ws (normal y) by at) ∙ q))))
 
 -- ---- the five that make no closing check (C-21): their next state is sound all the same
 -- renew
-settled_renew_lem : (P : Renewed → Type 0) (s : LockState) (m : Model) (a : Renewal) → P (renewed a s) → (a ≡ renewal.Done → P (renewed renewal.Done (state_of m))) → P (settled_renew a s m)
-settled_renew_lem P s m renewal.Done f g = g refl
-settled_renew_lem P s m (renewal.ActiveLockNotFound i) f g = f
-settled_renew_lem P s m renewal.RevisionOverflow f g = f
-settled_renew_lem P s m renewal.LockExpired f g = f
-settled_renew_lem P s m renewal.RenewalNotExtension f g = f
-settled_renew_lem P s m (renewal.UnsoundState n) f g = f
+settled_renew_lem : (P : Renewed → Type 0) (s : LockState) (m : Model) (a : Result ⊤ RenewalRefusal) → P (renewed a s) → (a ≡ Ok tt → P (renewed (Ok tt) (state_of m))) → P (settled_renew a s m)
+settled_renew_lem P s m (Ok tt) f g = g refl
+settled_renew_lem P s m (Err why) f g = f
 
-pub renew_comes : (P : Renewed → Type 0) (s : LockState) (i : LockId) (e now : ℕ) (has : Bool) (d : ℕ) → ((b : Renewal) → P (renewed b s))
-    → (judge_renew (model_of s) i e now ≡ renewal.Done → broken_rule (state_of (renewed_in (model_of s) i e has d)) ≡ Sound → P (renewed renewal.Done (state_of (renewed_in (model_of s) i e has d))))
+pub renew_comes : (P : Renewed → Type 0) (s : LockState) (i : LockId) (e now : ℕ) (has : Bool) (d : ℕ) → ((b : Result ⊤ RenewalRefusal) → P (renewed b s))
+    → (judge_renew (model_of s) i e now ≡ Ok tt → broken_rule (state_of (renewed_in (model_of s) i e has d)) ≡ Ok tt → P (renewed (Ok tt) (state_of (renewed_in (model_of s) i e has d))))
     → P (renew_on s i e now has d)
 unfolding renew_on
 renew_comes P s i e now has d refused through =
-    by_verdict_lem P s (λ n. renewed (renewal.UnsoundState n) s) _ (λ n. refused (renewal.UnsoundState n)) (λ v.
+    by_verdict_lem P s (λ n. renewed (Err (renewal.UnsoundState n)) s) _ (λ n. refused (Err (renewal.UnsoundState n))) (λ v.
     settled_renew_lem P s (renewed_in (model_of s) i e has d) (judge_renew (model_of s) i e now) (refused _)
     (λ q. through q (sound_state _ (renew_keeps (model_of s) i e has d full (sound_of s v)))))
 
 -- delete
-pub delete_comes : (P : Deleted → Type 0) (s : LockState) (i : LockId) → ((b : Deletion) → P (deleted b [] s))
-    → ((r : ActiveLock) → find (has_id i) (model_of s).active ≡ some r → broken_rule (state_of (without_tree (model_of s) r)) ≡ Sound
-    → P (deleted deletion.Done (tree_out (model_of s) r).gone (state_of (without_tree (model_of s) r))))
+pub delete_comes : (P : Deleted → Type 0) (s : LockState) (i : LockId) → ((b : Result ⊤ DeletionRefusal) → P (deleted b [] s))
+    → ((r : ActiveLock) → find (has_id i) (model_of s).active ≡ Some r → broken_rule (state_of (without_tree (model_of s) r)) ≡ Ok tt
+    → P (deleted (Ok tt) (tree_out (model_of s) r).gone (state_of (without_tree (model_of s) r))))
     → P (delete_on s i)
 unfolding delete_on delete_found
 delete_comes P s i refused through =
-    by_verdict_lem P s (λ n. deleted (deletion.UnsoundState n) [] s) _ (λ n. refused (deletion.UnsoundState n)) (λ v.
+    by_verdict_lem P s (λ n. deleted (Err (deletion.UnsoundState n)) [] s) _ (λ n. refused (Err (deletion.UnsoundState n))) (λ v.
     go (sound_of s v) (find (has_id i) (model_of s).active) refl)
   where
     go : Yes (sound full (model_of s)) → (o : Option ActiveLock) → find (has_id i) (model_of s).active ≡ o → P (delete_found s i o)
-    go t none q = refused (deletion.ActiveLockNotFound i)
-    go t (some r) q =
-        cond_both P _ _ (at_last_lem s.revision) (λ u. refused deletion.RevisionOverflow) (λ u.
+    go t None q = refused (Err (deletion.ActiveLockNotFound i))
+    go t (Some r) q =
+        cond_both P _ _ (at_last_lem s.revision) (λ u. refused (Err deletion.RevisionOverflow)) (λ u.
         through r q (sound_state _ (delete_keeps full (model_of s) r t)))
 
 -- begin_expiration: "else as delete"
-pub expiration_comes : (P : Expired → Type 0) (s : LockState) (i : LockId) (now : ℕ) → ((b : Expiration) → P (expired b [] s))
-    → ((r : ActiveLock) → find (has_id i) (model_of s).active ≡ some r → broken_rule (state_of (without_tree (model_of s) r)) ≡ Sound
-    → P (expired expiration.Done (tree_out (model_of s) r).gone (state_of (without_tree (model_of s) r))))
+pub expiration_comes : (P : Expired → Type 0) (s : LockState) (i : LockId) (now : ℕ) → ((b : Result Expiration StateRefusal) → P (expired b [] s))
+    → ((r : ActiveLock) → find (has_id i) (model_of s).active ≡ Some r → broken_rule (state_of (without_tree (model_of s) r)) ≡ Ok tt
+    → P (expired (Ok Done) (tree_out (model_of s) r).gone (state_of (without_tree (model_of s) r))))
     → P (begin_expiration_on s i now)
 unfolding begin_expiration_on expire_found
 expiration_comes P s i now refused through =
-    by_verdict_lem P s (λ n. expired (expiration.UnsoundState n) [] s) _ (λ n. refused (expiration.UnsoundState n)) (λ v.
+    by_verdict_lem P s (λ n. expired (Err (state_refusal.UnsoundState n)) [] s) _ (λ n. refused (Err (state_refusal.UnsoundState n))) (λ v.
     go (find (has_id i) (model_of s).active))
   where
     go : (o : Option ActiveLock) → P (expire_found s i now o)
-    go none = refused expiration.Stale
-    go (some r) =
-        cond_both P _ _ (ltb now r.expires) (λ u. refused (expiration.NotDue r.expires)) (λ u.
+    go None = refused (Ok Stale)
+    go (Some r) =
+        cond_both P _ _ (ltb now r.expires) (λ u. refused (Ok (NotDue r.expires))) (λ u.
         delete_comes (λ (d : Deleted). P (as_expired d)) s i (λ b. refused (as_expiration b)) through)
 
 -- acknowledge_defunct, expire_defunct: the entries are gone at the last revision too
-pub acknowledge_comes : (P : Acknowledged → Type 0) (s : LockState) (i : LockId) → ((b : Acknowledgement) → P (acknowledged b s))
-    → ((b : Acknowledgement) → broken_rule (state_of (shed_in (model_of s) (remove_d i (model_of s).defunct))) ≡ Sound
+pub acknowledge_comes : (P : Acknowledged → Type 0) (s : LockState) (i : LockId) → ((b : Result Bool StateRefusal) → P (acknowledged b s))
+    → ((b : Result Bool StateRefusal) → broken_rule (state_of (shed_in (model_of s) (remove_d i (model_of s).defunct))) ≡ Ok tt
     → P (acknowledged b (state_of (shed_in (model_of s) (remove_d i (model_of s).defunct)))))
     → P (acknowledge_on s i)
 unfolding acknowledge_on acknowledged_to
 acknowledge_comes P s i refused through =
-    by_verdict_lem P s (λ n. acknowledged (acknowledgement.UnsoundState n) s) _ (λ n. refused (acknowledgement.UnsoundState n)) (λ v.
-    cond_both P _ _ (any (has_id_d i) (model_of s).defunct) (λ u. through _ (sound_state _ (acknowledge_keeps full (model_of s) i (sound_of s v)))) (λ u. refused acknowledgement.Absent))
+    by_verdict_lem P s (λ n. acknowledged (Err (state_refusal.UnsoundState n)) s) _ (λ n. refused (Err (state_refusal.UnsoundState n))) (λ v.
+    cond_both P _ _ (any (has_id_d i) (model_of s).defunct) (λ u. through _ (sound_state _ (acknowledge_keeps full (model_of s) i (sound_of s v)))) (λ u. refused (Ok false)))
 
-pub expire_defunct_comes : (P : DefunctsExpired → Type 0) (s : LockState) (now : ℕ) → ((b : DefunctExpiry) → P (shed b [] s))
-    → ((b : DefunctExpiry) (l : List LockId) → broken_rule (state_of (shed_in (model_of s) (remove_all (lapsed_of now (model_of s)) (model_of s).defunct))) ≡ Sound
+pub expire_defunct_comes : (P : DefunctsExpired → Type 0) (s : LockState) (now : ℕ) → ((b : Result ⊤ StateRefusal) → P (shed b [] s))
+    → ((b : Result ⊤ StateRefusal) (l : List LockId) → broken_rule (state_of (shed_in (model_of s) (remove_all (lapsed_of now (model_of s)) (model_of s).defunct))) ≡ Ok tt
     → P (shed b l (state_of (shed_in (model_of s) (remove_all (lapsed_of now (model_of s)) (model_of s).defunct)))))
     → P (expire_defunct_on s now)
 unfolding expire_defunct_on shed_to
 expire_defunct_comes P s now refused through =
-    by_verdict_lem P s (λ n. shed (expiry.UnsoundState n) [] s) _ (λ n. refused (expiry.UnsoundState n)) (λ v.
+    by_verdict_lem P s (λ n. shed (Err (state_refusal.UnsoundState n)) [] s) _ (λ n. refused (Err (state_refusal.UnsoundState n))) (λ v.
     let g = sound_state _ (expire_keeps full (model_of s) (lapsed_of now (model_of s)) (sound_of s v)) in
     cond_both P _ _ (any (lapsed now) (model_of s).defunct) (λ u.
-    cond_both P _ _ (at_last_lem s.revision) (λ u. through expiry.RevisionOverflow [] g) (λ u. through expiry.Done (ids_of_entries (lapsed_of now (model_of s))) g))
-    (λ u. refused expiry.Done))
+    cond_both P _ _ (at_last_lem s.revision) (λ u. through (Err state_refusal.RevisionOverflow) [] g) (λ u. through (Ok tt) (ids_of_entries (lapsed_of now (model_of s))) g))
+    (λ u. refused (Ok tt)))

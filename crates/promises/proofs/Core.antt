@@ -5,7 +5,7 @@
 use mathlib.Core.Path.{◌≡◌}
 use mathlib.Core.Bool.{Bool, false≢true}
 use mathlib.Core.List.{List}
-use mathlib.Core.Option.{Option, some}
+use Rattle.std.specs.Prelude.{Option, Some}
 use mathlib.Core.Logic.{inl, inr}
 use Prim.Native.Nat.{ℕ}
 use lib.Dec.{eqb}
@@ -68,7 +68,7 @@ module _ (m : Model) where
   →pairs : (r : ActiveLock → ActiveLock → Bool) → ((a : ActiveLock) → Mem a m.active → (b : ActiveLock) → Mem b m.active → Yes (r a b)) → Yes (pairs r m)
   →pairs r f = →all (λ a. all (r a) m.active) m.active (λ a u. →all (r a) m.active (f a u))
 
-  of_some : (q : ActiveLock → Bool) (o : Option ActiveLock) (p : ActiveLock) → o ≡ some p → Yes (of_parent q o) → Yes (q p)
+  of_some : (q : ActiveLock → Bool) (o : Option ActiveLock) (p : ActiveLock) → o ≡ Some p → Yes (of_parent q o) → Yes (q p)
   of_some q o p e t = rw e at t
 
   parents→ : {k : Limits} → Facts k m → (a : ActiveLock) → Mem a m.active → Yes a.child → (p : ActiveLock) × Parent m.active a p
@@ -89,7 +89,7 @@ module _ (m : Model) where
       ]
 
   -- the parent is the lock that is found
-  found : Yes (ascending akey m.active) → (a p : ActiveLock) → Parent m.active a p → parent_of m a ≡ some p
+  found : Yes (ascending akey m.active) → (a p : ActiveLock) → Parent m.active a p → parent_of m a ≡ Some p
   found o a p w = find_key akey m.active o (key a.parent) w.there w.id
 
   module _ (o : Yes (ascending akey m.active)) (f : (a : ActiveLock) → Mem a m.active → Yes a.child → (p : ActiveLock) × Parent m.active a p) where

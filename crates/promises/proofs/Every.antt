@@ -3,7 +3,7 @@
 use mathlib.Core.Path.{◌≡◌, refl}
 use mathlib.Core.Bool.{Bool, true, false, cond}
 use mathlib.Core.List.{List, [], ◌∷◌}
-use mathlib.Core.Option.{Option, none, some}
+use Rattle.std.specs.Prelude.{Option, None, Some}
 use Prim.Native.Nat.{ℕ, zero-le}
 use lib.Dec.{ltb}
 use borrow.Author.Tests.{le-leb}
@@ -17,10 +17,9 @@ use Rattle.state.specs.declared.ActiveLock.{ActiveLock}
 use Rattle.state.specs.Locks.{has_id, has_id_d, normal_coverage, normal}
 use Rattle.state.specs.Model.{Model, Limits, fits, empty_model}
 use Rattle.rules.specs.Rules.{zero_id, zero_set, neat_l, neat_a, in_order, neat, rule1, rule2, rule3, rule4, rule5, rule6, rule7, rule8, rule9, sound}
-use Rattle.operations.specs.declared.answers.Answer.{Answer}
-use Rattle.operations.specs.declared.answers.Answer.TheVariants.{Done}
-use Rattle.operations.specs.declared.answers.Renewal.{Renewal}
-use Rattle.operations.specs.declared.answers.Renewal.TheVariants as renewal
+use Rattle.std.specs.Prelude.{Result, Ok, Err, ⊤}
+use Rattle.operations.specs.declared.answers.Refusal.{Refusal}
+use Rattle.operations.specs.declared.answers.RenewalRefusal.{RenewalRefusal}
 use Rattle.operations.specs.Answers.{is_done}
 use Rattle.operations.specs.Checks.{at_last_lem}
 use Rattle.operations.specs.Renew.{judge_renew}
@@ -49,27 +48,23 @@ normal_neat y = and_i _ _ (normal_cover y.lock.coverage) (go y.child)
 
 -- ---- one step
 module _ (k : Limits) (m : Model) (s : Yes (sound k m)) where
-  after_keeps : (a : Answer) (new : Model) → (a ≡ Done → Yes (sound k new)) → Yes (sound k (after a m new))
+  after_keeps : (a : Result ⊤ Refusal) (new : Model) → (a ≡ Ok tt → Yes (sound k new)) → Yes (sound k (after a m new))
   after_keeps a new f = cond_both (λ (x : Model). Yes (sound k x)) new m (is_done a) (λ t. f (is_done_lem a t)) (λ t. s)
 
-  renewal_keeps : (a : Renewal) (new : Model) → Yes (sound k new) → Yes (sound k (after_renewal a m new))
-  renewal_keeps renewal.Done new f = f
-  renewal_keeps (renewal.ActiveLockNotFound i) new f = s
-  renewal_keeps renewal.RevisionOverflow new f = s
-  renewal_keeps renewal.LockExpired new f = s
-  renewal_keeps renewal.RenewalNotExtension new f = s
-  renewal_keeps (renewal.UnsoundState n) new f = s
+  renewal_keeps : (a : Result ⊤ RenewalRefusal) (new : Model) → Yes (sound k new) → Yes (sound k (after_renewal a m new))
+  renewal_keeps (Ok done) new f = f
+  renewal_keeps (Err why) new f = s
 
   last_keeps : (r : ActiveLock) → Yes (sound k (cond (at_last_lem m.revision) m (without_tree m r)))
   last_keeps r = cond_both (λ (x : Model). Yes (sound k x)) m (without_tree m r) (at_last_lem m.revision) (λ t. s) (λ t. delete_keeps k m r s)
 
   deletion_keeps : (o : Option ActiveLock) → Yes (sound k (after_delete m o))
-  deletion_keeps none = s
-  deletion_keeps (some r) = last_keeps r
+  deletion_keeps None = s
+  deletion_keeps (Some r) = last_keeps r
 
   expiration_keeps : (now : ℕ) (o : Option ActiveLock) → Yes (sound k (after_expiration now m o))
-  expiration_keeps now none = s
-  expiration_keeps now (some r) = cond_both (λ (x : Model). Yes (sound k x)) m _ (ltb now r.expires) (λ t. s) (λ t. last_keeps r)
+  expiration_keeps now None = s
+  expiration_keeps now (Some r) = cond_both (λ (x : Model). Yes (sound k x)) m _ (ltb now r.expires) (λ t. s) (λ t. last_keeps r)
 
   pub step_keeps : (o : Op) → Yes (sound k (step k m o))
   unfolding step

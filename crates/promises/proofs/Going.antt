@@ -4,7 +4,9 @@
 use mathlib.Core.Path.{◌≡◌, refl, sym, ap, ◌∙◌, subst}
 use mathlib.Core.List.Memᴰ
 use mathlib.Core.List.{List, [], ◌∷◌}
-use mathlib.Core.Option.{Option, none, some, map, none-ne-some, some-injective}
+use Rattle.std.specs.Prelude.{Option, None, Some}
+use Rattle.std.specs.Option.{option_map}
+use Rattle.lists.proofs.Options.{None_ne_Some, Some_injective}
 use Prim.Native.Nat.{ℕ, ◌≤◌}
 use native.Mathlib.Omega.{arith}
 use native.Mathlib.Decide.{ℕ_discrete}
@@ -46,42 +48,42 @@ unfolding other has_id_d
 other→ e d t q = against (non_yes _ t) (eq-eqb _ _ q)
 
 -- ---- who is found after the entry e has gone
-pub drop_gone : (e : DefunctLock) (t : List DefunctLock) (k : ℕ) → k ≡ dkey e → find_d (drop_entry e t) k ≡ none
+pub drop_gone : (e : DefunctLock) (t : List DefunctLock) (k : ℕ) → k ≡ dkey e → find_d (drop_entry e t) k ≡ None
 drop_gone e t k q = find_miss (λ d. eqb (dkey d) k) (drop_entry e t) (λ d m u.
     let w = Memᴰ.of_map (redirect e) (filter (other e) t) m in
     let v = filter→ (other e) t w.1 in
     other→ e w.0 v.1 (sym (redirect_key e w.0) ∙ ap dkey w.2 ∙ eqb-true (dkey d) k u ∙ q))
 
-pub drop_kept : (e : DefunctLock) (t : List DefunctLock) (k : ℕ) → (k ≡ dkey e → ⊥) → find_d (drop_entry e t) k ≡ map (redirect e) (find_d t k)
+pub drop_kept : (e : DefunctLock) (t : List DefunctLock) (k : ℕ) → (k ≡ dkey e → ⊥) → find_d (drop_entry e t) k ≡ option_map (redirect e) (find_d t k)
 drop_kept e t k q =
     find_map (λ d. eqb (dkey d) k) (redirect e) (filter (other e) t) (λ d. ap (λ (n : ℕ). eqb n k) (redirect_key e d))
-    ∙ ap (map (redirect e)) (find_filter (λ d. eqb (dkey d) k) (other e) t (λ d u. other_yes e d (λ v. q (sym (eqb-true (dkey d) k u) ∙ v))))
+    ∙ ap (option_map (redirect e)) (find_filter (λ d. eqb (dkey d) k) (other e) t (λ d u. other_yes e d (λ v. q (sym (eqb-true (dkey d) k u) ∙ v))))
 
 -- ---- the walk still ends
-module _ (e : DefunctLock) (t : List DefunctLock) (at : find_d t (dkey e) ≡ some e) where
-  pub drop_out : (k : ℕ) → find_d t k ≡ none → find_d (drop_entry e t) k ≡ none
-  drop_out k n = drop_kept e t k (λ q. none-ne-some e (sym n ∙ ap (find_d t) q ∙ at)) ∙ ap (map (redirect e)) n
+module _ (e : DefunctLock) (t : List DefunctLock) (at : find_d t (dkey e) ≡ Some e) where
+  pub drop_out : (k : ℕ) → find_d t k ≡ None → find_d (drop_entry e t) k ≡ None
+  drop_out k n = drop_kept e t k (λ q. None_ne_Some e (sym n ∙ ap (find_d t) q ∙ at)) ∙ ap (option_map (redirect e)) n
 
-  drop_step : (k : ℕ) (d : DefunctLock) → find_d t k ≡ some d → Ends (drop_entry e t) (key d.target) → (key d.target ≡ dkey e → Ends (drop_entry e t) (key e.target)) → Ends (drop_entry e t) k
+  drop_step : (k : ℕ) (d : DefunctLock) → find_d t k ≡ Some d → Ends (drop_entry e t) (key d.target) → (key d.target ≡ dkey e → Ends (drop_entry e t) (key e.target)) → Ends (drop_entry e t) k
   drop_step k d f r s =
       elim (ℕ_discrete k (dkey e)) [
         | yes q ↦ done (drop_gone e t k q)
         | no q ↦
-            step (drop_kept e t k q ∙ ap (map (redirect e)) f)
+            step (drop_kept e t k q ∙ ap (option_map (redirect e)) f)
             (elim (ℕ_discrete (key d.target) (dkey e)) [ yes u ↦ rw (redirect_hit e d u) (s u) | no u ↦ rw (redirect_miss e d u) r ])
       ]
 
   -- from any id, and from the gone entry's target
   ends_drop : {k : ℕ} → Ends t k → Ends (drop_entry e t) k × (k ≡ dkey e → Ends (drop_entry e t) (key e.target))
-  ends_drop {k} (done n) = (done (drop_out k n), λ q. absurd (none-ne-some e (sym n ∙ ap (find_d t) q ∙ at)))
+  ends_drop {k} (done n) = (done (drop_out k n), λ q. absurd (None_ne_Some e (sym n ∙ ap (find_d t) q ∙ at)))
   ends_drop {k} (step {d = d} f r) =
       let h = ends_drop r in (
         drop_step k d f h.0 h.1,
-        λ q. subst (λ (x : DefunctLock). Ends (drop_entry e t) (key x.target)) (some-injective d e (sym f ∙ ap (find_d t) q ∙ at)) h.0,
+        λ q. subst (λ (x : DefunctLock). Ends (drop_entry e t) (key x.target)) (Some_injective d e (sym f ∙ ap (find_d t) q ∙ at)) h.0,
       )
 
 -- the entry that is found by an id is found by its own
-pub found_own : (i : LockId) (t : List DefunctLock) (e : DefunctLock) → find (has_id_d i) t ≡ some e → (dkey e ≡ key i) × (find_d t (dkey e) ≡ some e)
+pub found_own : (i : LockId) (t : List DefunctLock) (e : DefunctLock) → find (has_id_d i) t ≡ Some e → (dkey e ≡ key i) × (find_d t (dkey e) ≡ Some e)
 unfolding has_id_d
 found_own i t e q = let h = eqb-true (dkey e) (key i) (find→ (λ d. eqb (dkey d) (key i)) t q).1 in (h, ap (find_d t) h ∙ q)
 
@@ -90,8 +92,8 @@ unfolding remove_d
 ends_remove_d i t k r = go (find (has_id_d i) t) refl
   where
     go : (o : Option DefunctLock) → find (has_id_d i) t ≡ o → Ends (drop_found o t) k
-    go none q = r
-    go (some e) q = (ends_drop e t (found_own i t e q).1 r).0
+    go None q = r
+    go (Some e) q = (ends_drop e t (found_own i t e q).1 r).0
 
 -- ---- what a table keeps
 pub record Shrinks (t u : List DefunctLock) : Type 0 where
@@ -114,12 +116,12 @@ shrinks_trans f g =
 
 module _ (t : List DefunctLock) where
   drop_order : (o : Option DefunctLock) → Yes (ascending dkey t) → Yes (ascending dkey (drop_found o t))
-  drop_order none h = h
-  drop_order (some e) h = rw (from_map dkey (redirect e) (redirect_key e)) (from_filter dkey (other e) 0 t h)
+  drop_order None h = h
+  drop_order (Some e) h = rw (from_map dkey (redirect e) (redirect_key e)) (from_filter dkey (other e) 0 t h)
 
   drop_was : (o : Option DefunctLock) (d : DefunctLock) → Mem d (drop_found o t) → (e : DefunctLock) × Mem e t × (d.lock ≡ e.lock)
-  drop_was none d u = (d, u, refl)
-  drop_was (some e) d u =
+  drop_was None d u = (d, u, refl)
+  drop_was (Some e) d u =
       let w = Memᴰ.of_map (redirect e) (filter (other e) t) u in
       (w.0, (filter→ _ t w.1).0, sym (ap (λ (x : DefunctLock). x.lock) w.2) ∙ redirect_lock e w.0)
 

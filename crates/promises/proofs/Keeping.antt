@@ -5,7 +5,7 @@ use mathlib.Core.Path.{◌≡◌, refl, sym, ap, ◌∙◌, subst}
 use mathlib.Core.Bool.{Bool}
 use mathlib.Core.List.Memᴰ
 use mathlib.Core.List.{List, map}
-use mathlib.Core.Option.{Option, none, some}
+use Rattle.std.specs.Prelude.{Option, None, Some}
 use mathlib.Core.Logic.{◌⊎◌, inl, inr}
 use Prim.Native.Nat.{ℕ}
 use native.Mathlib.Omega.{arith}
@@ -253,27 +253,27 @@ module _ (m : Model) (p : ActiveLock → Bool) (x : ActiveLock) (s : Core m) (th
       (λ a u v. adopt_cases (λ b. No b.child) a (λ t. absurd (against (ok a u t).low v)) (λ t. s.roots a u v))
 
 -- ---- an entry comes, pointing at an id that no entry has
-ends_added : (t u : List DefunctLock) (z : ℕ) → find_d u z ≡ none
-    → ((k : ℕ) → (find_d u k ≡ find_d t k) ⊎ ((d : DefunctLock) × (find_d u k ≡ some d) × (key d.target ≡ z)))
+ends_added : (t u : List DefunctLock) (z : ℕ) → find_d u z ≡ None
+    → ((k : ℕ) → (find_d u k ≡ find_d t k) ⊎ ((d : DefunctLock) × (find_d u k ≡ Some d) × (key d.target ≡ z)))
     → {k : ℕ} → Ends t k → Ends u k
 ends_added t u z n f {k} (done e) = go (f k)
   where
-    go : (find_d u k ≡ find_d t k) ⊎ ((d : DefunctLock) × (find_d u k ≡ some d) × (key d.target ≡ z)) → Ends u k
+    go : (find_d u k ≡ find_d t k) ⊎ ((d : DefunctLock) × (find_d u k ≡ Some d) × (key d.target ≡ z)) → Ends u k
     go (inl q) = done (q ∙ e)
     go (inr w) = step w.1 (rw w.2 (done n))
 ends_added t u z n f {k} (step {d = d} e r) = go (f k) (ends_added t u z n f r)
   where
-    go : (find_d u k ≡ find_d t k) ⊎ ((d : DefunctLock) × (find_d u k ≡ some d) × (key d.target ≡ z)) → Ends u (key d.target) → Ends u k
+    go : (find_d u k ≡ find_d t k) ⊎ ((d : DefunctLock) × (find_d u k ≡ Some d) × (key d.target ≡ z)) → Ends u (key d.target) → Ends u k
     go (inl q) s = step (q ∙ e) s
     go (inr w) s = step w.1 (rw w.2 (done n))
 
 module _ (t : List DefunctLock) (d : DefunctLock) (new : (e : DefunctLock) → Mem e t → dkey e ≡ dkey d → ⊥) where
-  found_new : (k : ℕ) → dkey d ≡ k → find_d (insert_by dkey d t) k ≡ some d
+  found_new : (k : ℕ) → dkey d ≡ k → find_d (insert_by dkey d t) k ≡ Some d
   found_new k q =
       let w = find_hit (λ x. eqb (dkey x) k) (insert_by dkey d t) (insert_new dkey d t) (eq-eqb _ _ q) in
       let f = find→ _ (insert_by dkey d t) w.1 in
       let same : dkey w.0 ≡ dkey d = eqb-true _ _ f.1 ∙ sym q in
-      w.1 ∙ ap {B = Option DefunctLock} some (elim (insert→ dkey d t f.0) [ inl p ↦ p | inr v ↦ absurd (new w.0 v same) ])
+      w.1 ∙ ap {B = Option DefunctLock} Some (elim (insert→ dkey d t f.0) [ inl p ↦ p | inr v ↦ absurd (new w.0 v same) ])
 
   found_old : (k : ℕ) → (dkey d ≡ k → ⊥) → find_d (insert_by dkey d t) k ≡ find_d t k
   found_old k q = find_insert dkey (λ x. eqb (dkey x) k) d t (ne_eqb _ _ q)

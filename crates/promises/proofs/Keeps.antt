@@ -20,7 +20,7 @@ use Rattle.state.specs.declared.DefunctLock.{DefunctLock}
 use Rattle.state.specs.Locks.{akey, dkey, is_vehicle, has_id}
 use Rattle.state.specs.Model.{Model, Limits, fits}
 use Rattle.rules.specs.Rules.{neat_l, neat_a, neat_d, sound}
-use Rattle.operations.specs.declared.answers.Answer.TheVariants.{Done}
+use Rattle.std.specs.Prelude.{Ok}
 use Rattle.operations.specs.Answers.{is_done}
 use Rattle.operations.specs.Defuncts.{remove_d, remove_all, supersede, to_defunct, enter_all}
 use Rattle.operations.specs.Trees.{Parts, in_tree, start_parts, is_listed}
@@ -64,7 +64,7 @@ core_inserted m x n s f =
     let g = supersede_shrinks x m.defunct in
     core_insert (made n m.active (supersede x m.defunct)) x n (core_shed m (supersede x m.defunct) n s g) (comes_on m x (supersede x m.defunct) n g f)
 
-pub insert_keeps : (k : Limits) (m : Model) (x : ActiveLock) → Yes (neat_a x) → Yes (sound k m) → judge_insert k m x ≡ Done → Yes (sound k (inserted_in m x))
+pub insert_keeps : (k : Limits) (m : Model) (x : ActiveLock) → Yes (neat_a x) → Yes (sound k m) → judge_insert k m x ≡ Ok tt → Yes (sound k (inserted_in m x))
 unfolding judge_bundled inserted_in
 insert_keeps k m x t s e =
     let f = stands_of k m s in
@@ -91,7 +91,7 @@ core_taken m p x n s f out ok =
     (core_adopt (made n (insert_by akey x m.active) (supersede x m.defunct)) p x (core_inserted m x n s f) (insert_new akey x m.active)
     (λ a u t. elim (insert→ akey x m.active u) [ inl q ↦ absurd (against out (subst (λ (b : ActiveLock). Yes (p b)) q t)) | inr v ↦ ok a v t ]))
 
-pub vehicle_keeps : (k : Limits) (m : Model) (x : ActiveLock) (ws : List ℕ) → Yes (neat_a x) → Yes (sound k m) → judge_vehicle k m x ws ≡ Done → Yes (sound k (vehicle_in m x ws))
+pub vehicle_keeps : (k : Limits) (m : Model) (x : ActiveLock) (ws : List ℕ) → Yes (neat_a x) → Yes (sound k m) → judge_vehicle k m x ws ≡ Ok tt → Yes (sound k (vehicle_in m x ws))
 unfolding judge_vehicle vehicle_in inserted_in conflicts
 vehicle_keeps k m x ws t s e =
     let f = stands_of k m s in
@@ -230,7 +230,7 @@ module _ (x : ActiveLock) (by at : ℕ) where
       })
       o.1
 
-pub replace_keeps : (k : Limits) (m : Model) (ws : List ℕ) (x : ActiveLock) (by at : ℕ) → Yes (neat_a x) → Yes (sound k m) → judge_replace k m ws x by at ≡ Done → Yes (sound k (replaced_in m ws x by at))
+pub replace_keeps : (k : Limits) (m : Model) (ws : List ℕ) (x : ActiveLock) (by at : ℕ) → Yes (neat_a x) → Yes (sound k m) → judge_replace k m ws x by at ≡ Ok tt → Yes (sound k (replaced_in m ws x by at))
 unfolding check_entry replaced_in entered_of orphan has_id
 replace_keeps k m ws x by at t s e =
     let f = stands_of k m s in

@@ -14,7 +14,7 @@ use Rattle.ids.specs.Order.{key}
 use Rattle.state.specs.declared.DefunctLock.{DefunctLock}
 use Rattle.state.specs.declared.LockState.{LockState}
 use Rattle.state.specs.Model.{Model, model_of, Limits, full, fits}
-use Rattle.rules.specs.declared.Verdict.TheVariants.{Sound}
+use Rattle.std.specs.Prelude.{Ok}
 use Rattle.rules.specs.Rules.{rule9, broken_rule, sound}
 use Rattle.rules.proofs.Sound.{sound_of}
 use Rattle.lookups.specs.Reads.{Follows, walk, holder_of}
@@ -48,7 +48,7 @@ module _ (k : Limits) (m : Model) (s : Yes (sound k m)) where
   walk_ends d n h = holder_fuel m nine d n h
 
 -- in the code's states
-pub links_full : (s : LockState) → broken_rule s ≡ Sound → (d : DefunctLock) → ((holder_of (model_of s) d).links ≤ 128) × (Mem d (model_of s).defunct → (holder_of (model_of s) d).links ≤ 127)
+pub links_full : (s : LockState) → broken_rule s ≡ Ok tt → (d : DefunctLock) → ((holder_of (model_of s) d).links ≤ 128) × (Mem d (model_of s).defunct → (holder_of (model_of s) d).links ≤ 127)
 unfolding fits
 links_full s e d =
     let t = sound_of s e in (

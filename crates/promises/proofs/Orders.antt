@@ -1,9 +1,11 @@
 -- Entries that go in any order leave one table, where the table has no ring: two entries may go one before the other or the
 -- other way round, so a list of entries may go in any order. Superseding and expiry are such lists. Assumes nothing.
+use Rattle.std.specs.Option.{option_map}
 use mathlib.Core.Path.{◌≡◌, refl, sym, ap, ◌∙◌}
 use mathlib.Core.List.{List, map, map-map, map_congr_left}
 use mathlib.Core.Option
-use mathlib.Core.Option.{Option, none, some, none-ne-some, some-injective}
+use Rattle.std.specs.Prelude.{Option, None, Some}
+use Rattle.lists.proofs.Options.{None_ne_Some, Some_injective}
 use mathlib.Core.Logic.{◌⊎◌, inl, inr}
 use Prim.Native.Nat.{ℕ}
 use native.Mathlib.Decide.{ℕ_discrete}
@@ -86,12 +88,12 @@ drop_swap e f t n ring =
     ∙ sym (both_gone f e t)
 
 -- in a table where the walk ends no two entries point at each other
-pub no_ring : (t : List DefunctLock) (e f : DefunctLock) → find_d t (key f.target) ≡ some e → find_d t (key e.target) ≡ some f
+pub no_ring : (t : List DefunctLock) (e f : DefunctLock) → find_d t (key f.target) ≡ Some e → find_d t (key e.target) ≡ Some f
     → {k : ℕ} → Ends t k → (k ≡ key f.target) ⊎ (k ≡ key e.target) → ⊥
-no_ring t e f p q {k} (done n) (inl u) = none-ne-some e (sym n ∙ ap (find_d t) u ∙ p)
-no_ring t e f p q {k} (done n) (inr u) = none-ne-some f (sym n ∙ ap (find_d t) u ∙ q)
-no_ring t e f p q {k} (step {d = d} h r) (inl u) = no_ring t e f p q r (inr (ap (λ (x : DefunctLock). key x.target) (some-injective d e (sym h ∙ ap (find_d t) u ∙ p))))
-no_ring t e f p q {k} (step {d = d} h r) (inr u) = no_ring t e f p q r (inl (ap (λ (x : DefunctLock). key x.target) (some-injective d f (sym h ∙ ap (find_d t) u ∙ q))))
+no_ring t e f p q {k} (done n) (inl u) = None_ne_Some e (sym n ∙ ap (find_d t) u ∙ p)
+no_ring t e f p q {k} (done n) (inr u) = None_ne_Some f (sym n ∙ ap (find_d t) u ∙ q)
+no_ring t e f p q {k} (step {d = d} h r) (inl u) = no_ring t e f p q r (inr (ap (λ (x : DefunctLock). key x.target) (Some_injective d e (sym h ∙ ap (find_d t) u ∙ p))))
+no_ring t e f p q {k} (step {d = d} h r) (inr u) = no_ring t e f p q r (inl (ap (λ (x : DefunctLock). key x.target) (Some_injective d f (sym h ∙ ap (find_d t) u ∙ q))))
 
 -- ---- by keys
 abbrev gone : ℕ → List DefunctLock → List DefunctLock
@@ -101,35 +103,35 @@ removed_by : (i : LockId) (t : List DefunctLock) → remove_d i t ≡ gone (key 
 unfolding remove_d has_id_d
 removed_by i t = refl
 
-gone_none : (k : ℕ) (t : List DefunctLock) → find_d t k ≡ none → gone k t ≡ t
+gone_none : (k : ℕ) (t : List DefunctLock) → find_d t k ≡ None → gone k t ≡ t
 gone_none k t e = ap (λ (o : Option DefunctLock). drop_found o t) e
 
-gone_some : (k : ℕ) (t : List DefunctLock) (e : DefunctLock) → find_d t k ≡ some e → gone k t ≡ drop_entry e t
+gone_some : (k : ℕ) (t : List DefunctLock) (e : DefunctLock) → find_d t k ≡ Some e → gone k t ≡ drop_entry e t
 gone_some k t e q = ap (λ (o : Option DefunctLock). drop_found o t) q
 
-own : (k : ℕ) (t : List DefunctLock) (e : DefunctLock) → find_d t k ≡ some e → dkey e ≡ k
+own : (k : ℕ) (t : List DefunctLock) (e : DefunctLock) → find_d t k ≡ Some e → dkey e ≡ k
 own k t e q = eqb-true (dkey e) k (find→ (λ d. eqb (dkey d) k) t q).1
 
 -- an id that no entry has may go before or after
-missing_swap : (a b : ℕ) (t : List DefunctLock) (f : DefunctLock) → find_d t a ≡ none → find_d t b ≡ some f → gone a (gone b t) ≡ gone b (gone a t)
+missing_swap : (a b : ℕ) (t : List DefunctLock) (f : DefunctLock) → find_d t a ≡ None → find_d t b ≡ Some f → gone a (gone b t) ≡ gone b (gone a t)
 missing_swap a b t f n q =
     ap (gone a) (gone_some b t f q)
-    ∙ gone_none a (drop_entry f t) (drop_kept f t a (λ u. none-ne-some f (sym n ∙ ap (find_d t) (u ∙ own b t f q) ∙ q)) ∙ ap (Option.map (redirect f)) n)
+    ∙ gone_none a (drop_entry f t) (drop_kept f t a (λ u. None_ne_Some f (sym n ∙ ap (find_d t) (u ∙ own b t f q) ∙ q)) ∙ ap (option_map (redirect f)) n)
     ∙ sym (ap (gone b) (gone_none a t n) ∙ gone_some b t f q)
 
-both_by : (a b : ℕ) (t : List DefunctLock) (e f : DefunctLock) → (a ≡ b → ⊥) → find_d t a ≡ some e → find_d t b ≡ some f → gone a (gone b t) ≡ drop_entry (redirect f e) (drop_entry f t)
+both_by : (a b : ℕ) (t : List DefunctLock) (e f : DefunctLock) → (a ≡ b → ⊥) → find_d t a ≡ Some e → find_d t b ≡ Some f → gone a (gone b t) ≡ drop_entry (redirect f e) (drop_entry f t)
 both_by a b t e f n p q =
     ap (gone a) (gone_some b t f q)
-    ∙ gone_some a (drop_entry f t) (redirect f e) (drop_kept f t a (λ u. n (u ∙ own b t f q)) ∙ ap (Option.map (redirect f)) p)
+    ∙ gone_some a (drop_entry f t) (redirect f e) (drop_kept f t a (λ u. n (u ∙ own b t f q)) ∙ ap (option_map (redirect f)) p)
 
 gone_swap : (a b : ℕ) (t : List DefunctLock) → Acyclic t → gone a (gone b t) ≡ gone b (gone a t)
 gone_swap a b t ends = elim (ℕ_discrete a b) [ yes q ↦ rw q | no q ↦ go q (find_d t a) refl (find_d t b) refl ]
   where
     go : (a ≡ b → ⊥) → (o : Option DefunctLock) → find_d t a ≡ o → (p : Option DefunctLock) → find_d t b ≡ p → gone a (gone b t) ≡ gone b (gone a t)
-    go n none e none f = ap (gone a) (gone_none b t f) ∙ gone_none a t e ∙ sym (ap (gone b) (gone_none a t e) ∙ gone_none b t f)
-    go n none e (some f) q = missing_swap a b t f e q
-    go n (some e) p none q = sym (missing_swap b a t e q p)
-    go n (some e) p (some f) q =
+    go n None e None f = ap (gone a) (gone_none b t f) ∙ gone_none a t e ∙ sym (ap (gone b) (gone_none a t e) ∙ gone_none b t f)
+    go n None e (Some f) q = missing_swap a b t f e q
+    go n (Some e) p None q = sym (missing_swap b a t e q p)
+    go n (Some e) p (Some f) q =
         both_by a b t e f n p q
         ∙ drop_swap e f t (λ u. n (sym (own a t e p) ∙ u ∙ own b t f q))
         (λ u v. no_ring t e f (ap (find_d t) (v ∙ own a t e p) ∙ p) (ap (find_d t) (u ∙ own b t f q) ∙ q) (ends (key f.target)) (inl refl))

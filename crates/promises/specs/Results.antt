@@ -3,7 +3,7 @@
 -- entries that lapsed), the next state. They are judged and changed on the lists, over any limits k, with no test before and
 -- no check after; the next state is `step` of Steps.antt.
 use Rattle.std.specs.Prelude.{cond, List, [], ℕ, ltb, length}
-use Rattle.std.proofs.Math.Option.{Option, none, some}
+use Rattle.std.specs.Prelude.{Option, None, Some}
 use Rattle.lists.specs.Tests.{◌and◌}
 use Rattle.lists.specs.Lists.{any, find}
 use Rattle.lists.specs.Places.{in_places}
@@ -13,14 +13,13 @@ use Rattle.state.specs.declared.ActiveLock.{ActiveLock}
 use Rattle.state.specs.declared.LockState.{LockState}
 use Rattle.state.specs.Locks.{has_id, has_id_d, blank_active, normal}
 use Rattle.state.specs.Model.{Model, Limits}
-use Rattle.operations.specs.declared.answers.Deletion.{Deletion}
-use Rattle.operations.specs.declared.answers.Deletion.TheVariants as deletion
+use Rattle.std.specs.Prelude.{Result, Ok, Err, ⊤, Bool, true, false}
+use Rattle.operations.specs.declared.answers.DeletionRefusal.{DeletionRefusal}
+use Rattle.operations.specs.declared.answers.DeletionRefusal.TheVariants.{ActiveLockNotFound, RevisionOverflow}
+use Rattle.operations.specs.declared.answers.StateRefusal.{StateRefusal}
+use Rattle.operations.specs.declared.answers.StateRefusal.TheVariants as state_refusal
 use Rattle.operations.specs.declared.answers.Expiration.{Expiration}
-use Rattle.operations.specs.declared.answers.Expiration.TheVariants as expiration
-use Rattle.operations.specs.declared.answers.Acknowledgement.{Acknowledgement}
-use Rattle.operations.specs.declared.answers.Acknowledgement.TheVariants as acknowledgement
-use Rattle.operations.specs.declared.answers.DefunctExpiry.{DefunctExpiry}
-use Rattle.operations.specs.declared.answers.DefunctExpiry.TheVariants as expiry
+use Rattle.operations.specs.declared.answers.Expiration.TheVariants.{Stale, NotDue}
 use Rattle.operations.specs.Answers.{is_done}
 use Rattle.operations.specs.Checks.{at_last_lem}
 use Rattle.operations.specs.Insert.{judge_insert}
@@ -54,21 +53,21 @@ performed outcome out ids state =
 
 -- ---- the answer
 -- 3 where there is no such lock; 8 at the last revision
-abbrev pub judge_delete : Model → LockId → Option ActiveLock → Deletion
-judge_delete m i none = deletion.ActiveLockNotFound i
-judge_delete m i (some r) = cond (at_last_lem m.revision) deletion.RevisionOverflow deletion.Done
+abbrev pub judge_delete : Model → LockId → Option ActiveLock → Result ⊤ DeletionRefusal
+judge_delete m i None = Err (ActiveLockNotFound i)
+judge_delete m i (Some r) = cond (at_last_lem m.revision) (Err RevisionOverflow) (Ok tt)
 
 -- Stale, NotDue with the time, "else as delete"
-abbrev pub judge_expiration : Model → LockId → ℕ → Option ActiveLock → Expiration
-judge_expiration m i now none = expiration.Stale
-judge_expiration m i now (some r) = cond (ltb now r.expires) (expiration.NotDue r.expires) (as_expiration (judge_delete m i (some r)))
+abbrev pub judge_expiration : Model → LockId → ℕ → Option ActiveLock → Result Expiration StateRefusal
+judge_expiration m i now None = Ok Stale
+judge_expiration m i now (Some r) = cond (ltb now r.expires) (Ok (NotDue r.expires)) (as_expiration (judge_delete m i (Some r)))
 
 -- 8 where something goes at the last revision
-abbrev pub judge_acknowledge : Model → LockId → Acknowledgement
-judge_acknowledge m i = cond (any (has_id_d i) m.defunct) (cond (at_last_lem m.revision) acknowledgement.RevisionOverflow acknowledgement.Done) acknowledgement.Absent
+abbrev pub judge_acknowledge : Model → LockId → Result Bool StateRefusal
+judge_acknowledge m i = cond (any (has_id_d i) m.defunct) (cond (at_last_lem m.revision) (Err state_refusal.RevisionOverflow) (Ok true)) (Ok false)
 
-abbrev pub judge_expiry : Model → ℕ → DefunctExpiry
-judge_expiry m now = cond (any (lapsed now) m.defunct and at_last_lem m.revision) expiry.RevisionOverflow expiry.Done
+abbrev pub judge_expiry : Model → ℕ → Result ⊤ StateRefusal
+judge_expiry m now = cond (any (lapsed now) m.defunct and at_last_lem m.revision) (Err state_refusal.RevisionOverflow) (Ok tt)
 
 unfoldable pub outcome_in : Limits → Model → Op → Outcome
 outcome_in k m (insert_active y) = O.Inserted (judge_insert k m (normal y))
@@ -82,12 +81,12 @@ outcome_in k m (expire_defunct now) = O.DefunctsExpired (judge_expiry m now)
 
 -- ---- the locks removed: a tree that went, or the trees replaced
 abbrev pub out_of : Model → Option ActiveLock → List ActiveLock
-out_of m none = []
-out_of m (some r) = cond (at_last_lem m.revision) [] (tree_out m r).gone
+out_of m None = []
+out_of m (Some r) = cond (at_last_lem m.revision) [] (tree_out m r).gone
 
 abbrev pub due_out_of : ℕ → Model → Option ActiveLock → List ActiveLock
-due_out_of now m none = []
-due_out_of now m (some r) = cond (ltb now r.expires) [] (out_of m (some r))
+due_out_of now m None = []
+due_out_of now m (Some r) = cond (ltb now r.expires) [] (out_of m (Some r))
 
 unfoldable pub removed_in : Limits → Model → Op → List ActiveLock
 removed_in k m (insert_active y) = []

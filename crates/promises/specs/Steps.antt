@@ -2,16 +2,16 @@
 -- the same where it is refused. Document 01, "Order of checks" and, for the last revision, the table's note to 8: after an
 -- acknowledgement or an expiry of defunct entries "entries are gone all the same, revision unchanged".
 use Rattle.std.specs.Prelude.{Bool, true, false, cond, List, [], ◌∷◌, ℕ, ltb}
-use Rattle.std.proofs.Math.Option.{Option, none, some}
+use Rattle.std.specs.Prelude.{Option, None, Some}
 use Rattle.lists.specs.Lists.{any, find}
 use Rattle.ids.specs.declared.LockId.{LockId}
 use Rattle.state.specs.declared.ActiveLock.{ActiveLock}
 use Rattle.state.specs.declared.LockState.{LockState}
 use Rattle.state.specs.Locks.{has_id, has_id_d, normal}
 use Rattle.state.specs.Model.{Model, Limits}
-use Rattle.operations.specs.declared.answers.Answer.{Answer}
-use Rattle.operations.specs.declared.answers.Renewal.{Renewal}
-use Rattle.operations.specs.declared.answers.Renewal.TheVariants as renewal
+use Rattle.std.specs.Prelude.{Result, Ok, Err, ⊤}
+use Rattle.operations.specs.declared.answers.Refusal.{Refusal}
+use Rattle.operations.specs.declared.answers.RenewalRefusal.{RenewalRefusal}
 use Rattle.operations.specs.Answers.{is_done}
 use Rattle.operations.specs.Defuncts.{remove_d, remove_all}
 use Rattle.operations.specs.Checks.{at_last_lem}
@@ -45,24 +45,20 @@ shortened (acknowledge i) = true
 shortened (expire_defunct now) = true
 
 -- ---- on the lists, over any limits
-abbrev pub after : Answer → Model → Model → Model
+abbrev pub after : Result ⊤ Refusal → Model → Model → Model
 after a old new = cond (is_done a) new old
 
-abbrev pub after_renewal : Renewal → Model → Model → Model
-after_renewal renewal.Done old new = new
-after_renewal (renewal.ActiveLockNotFound i) old new = old
-after_renewal renewal.RevisionOverflow old new = old
-after_renewal renewal.LockExpired old new = old
-after_renewal renewal.RenewalNotExtension old new = old
-after_renewal (renewal.UnsoundState n) old new = old
+abbrev pub after_renewal : Result ⊤ RenewalRefusal → Model → Model → Model
+after_renewal (Ok done) old new = new
+after_renewal (Err why) old new = old
 
 abbrev pub after_delete : Model → Option ActiveLock → Model
-after_delete m none = m
-after_delete m (some r) = cond (at_last_lem m.revision) m (without_tree m r)
+after_delete m None = m
+after_delete m (Some r) = cond (at_last_lem m.revision) m (without_tree m r)
 
 abbrev pub after_expiration : ℕ → Model → Option ActiveLock → Model
-after_expiration now m none = m
-after_expiration now m (some r) = cond (ltb now r.expires) m (cond (at_last_lem m.revision) m (without_tree m r))
+after_expiration now m None = m
+after_expiration now m (Some r) = cond (ltb now r.expires) m (cond (at_last_lem m.revision) m (without_tree m r))
 
 unfoldable pub step : Limits → Model → Op → Model
 step k m (insert_active y) = after (judge_insert k m (normal y)) m (inserted_in m (normal y))

@@ -1,40 +1,24 @@
 -- The laws of specs/Feeds.antt: bodies after a sequence, bodies before a count, words. Assumes nothing.
 use mathlib.Core.Path.{◌≡◌, refl, sym, ap, ◌∙◌}
-use mathlib.Core.Bool.{true}
 use mathlib.Core.List.{List, [], ◌∷◌, ◌++◌}
-use Prim.Native.Nat.{ℕ, zero, suc, ◌+◌, ◌-◌, ◌*◌, ◌/◌, ◌≤◌, ◌<◌, min}
+use Prim.Native.Nat.{ℕ, zero, suc, ◌+◌, ◌*◌, ◌/◌, ◌≤◌, ◌<◌, min}
 use native.Mathlib.Nat.{suc-mul}
 use native.Mathlib.Numerals.{add-one}
 use native.Mathlib.Omega.{arith}
-use lib.ListN.{length, get_or, set, replicate, take, drop, length-drop, drop_of_length-le}
-use lib.Seq.{take_all, take-nil, drop-length}
+use lib.ListN.{length, get_or, set, replicate}
 use lib.Dec.{leb}
 use borrow.Author.Tests.{leb-true, ne_eqb}
 use Rattle.lists.specs.Places.{in_places}
-use Rattle.lists.proofs.Tests.{and_t, and_l}
+use Rattle.lists.proofs.Tests.{and_l}
 use Rattle.lists.proofs.Loops.{push_in}
-use Rattle.records.specs.declared.requests.Asked.TheVariants.{BadField}
-use Rattle.records.specs.Numbers.{Field, size, field, part, big}
+use Rattle.std.specs.Prelude.{None}
+use Rattle.records.specs.Numbers.{Field, size, field, big}
 use Rattle.records.specs.Layouts.{fields_at}
-use Rattle.records.specs.Codecs.{Codec, in_body, number, pair, counted_in, counted}
+use Rattle.records.specs.Codecs.{Codec, number, pair, counted_in}
 use Rattle.records.specs.Wire.{active}
 use Rattle.records.specs.Feeds.{numbered, target, renewal, expiration, breaking, replacement_with, replacement_rest, replacement, metadata_right, request_of, words_in}
-use Rattle.records.proofs.Layouts.{fields_part}
 use Rattle.records.proofs.Codecs.{Lawful, Faithful, faithful, lawful}
-use Rattle.records.proofs.Wire.{and_true, flag_there, flag_back, active_lawful, active_faithful}
-
--- ---- the ACTIVE body within a feed body stands from its fifth byte on
-pub active_part : (s : List ℕ) → fields_at active.layout s 4 ≡ in_body active (part s 4 87)
-active_part s = sym (fields_part active.layout s 4 87 0 (omega arith))
-
-pub insert_right : (s : List ℕ) → (numbered active).right (in_body (numbered active) s) ≡ active.right (in_body active (part s 4 87))
-insert_right s = and_t true _ refl ∙ ap active.right (active_part s)
-
-pub vehicle_right : (s : List ℕ) → (counted (numbered active)).right (in_body (counted (numbered active)) s) ≡ active.right (in_body active (part s 4 87))
-vehicle_right s = and_true _ ∙ insert_right s
-
-pub replace_right : (s : List ℕ) → (counted (numbered replacement)).right (in_body (counted (numbered replacement)) s) ≡ active.right (in_body active (part s 4 87))
-replace_right s = and_true _ ∙ and_t true _ refl ∙ and_true _ ∙ ap active.right (active_part s)
+use Rattle.records.proofs.Wire.{flag_there, flag_back, active_lawful, active_faithful}
 
 -- ---- each codec is lawful
 pub number_lawful : (n : ℕ) → Lawful (number n)
@@ -82,13 +66,6 @@ renewal_faithful r = λ i. record { id = r.id; expires = r.expires; now = r.now;
 pub replacement_faithful : Faithful replacement
 replacement_faithful = faithful active breaking replacement_with (λ r. r.lock) replacement_rest (λ r. refl) active_lawful active_faithful (λ b. refl)
 
--- ---- what follows the first k bytes
-pub past_none : (s : List ℕ) (k : ℕ) → length s < k → take (length s - length s) (drop (length s) s) ≡ drop k s
-past_none s k h = ap (take (length s - length s)) (drop-length s) ∙ take-nil (length s - length s) ∙ sym (drop_of_length-le s (let z : length s ≤ k = omega arith in z))
-
-pub past_some : (s : List ℕ) (k : ℕ) → take (length s - k) (drop k s) ≡ drop k s
-past_some s k = take_all (length s - k) (drop k s) (omega (arith, length-drop k s))
-
 -- ---- words, one more at a time
 fields_more : (n : ℕ) (f : Field) (s : List ℕ) (at : ℕ) → fields_at (replicate (suc n) f) s at ≡ fields_at (replicate n f) s at ++ (field f s (at + n * size f) ∷ [])
 fields_more zero f s at = ap (λ (k : ℕ). field f s k ∷ []) (let z : at ≡ at + 0 * size f = omega arith in z)
@@ -119,7 +96,7 @@ words_all i n s words e h k m = e ∙ ap (λ (j : ℕ). first_words j s) (let z 
 
 -- ---- a kind that is none of the eight
 pub not_asked : (k : ℕ) (s : List ℕ) → (k ≡ 16 → ⊥) → (k ≡ 17 → ⊥) → (k ≡ 18 → ⊥) → (k ≡ 19 → ⊥) → (k ≡ 20 → ⊥) → (k ≡ 21 → ⊥) → (k ≡ 22 → ⊥) → (k ≡ 23 → ⊥)
-    → BadField ≡ request_of k s
+    → None ≡ request_of k s
 unfolding request_of
 not_asked k s h16 h17 h18 h19 h20 h21 h22 h23 =
     simp (ne_eqb k 16 h16, ne_eqb k 17 h17, ne_eqb k 18 h18, ne_eqb k 19 h19, ne_eqb k 20 h20, ne_eqb k 21 h21, ne_eqb k 22 h22, ne_eqb k 23 h23)

@@ -2,6 +2,7 @@
 pub mod Numbers
 pub mod Layouts
 pub mod Codecs
+pub mod Reading
 pub mod Table
 pub mod Framing
 pub mod Wire

@@ -1,15 +1,16 @@
 -- The laws of numbers as bytes, each once over the width. Assumes nothing.
-use mathlib.Core.Path.{◌≡◌, refl, sym, ap, ◌∙◌, subst}
+use mathlib.Core.Path.{◌≡◌, refl, sym, ap, ap₂, ◌∙◌, subst}
 use mathlib.Core.List.{List, [], ◌∷◌, ◌++◌, append_assoc, reverse, reverse_aux, reverse-reverse, reverse-append}
-use Prim.Native.Nat.{ℕ, zero, suc, ◌+◌, ◌*◌, ◌^◌, ◌/◌, ◌%◌, ◌≤◌, ◌<◌}
+use Prim.Native.Nat.{ℕ, zero, suc, ◌+◌, ◌*◌, ◌^◌, ◌/◌, ◌%◌, ◌-◌, ◌≤◌, ◌<◌}
 use native.Mathlib.Nat.{add-zero, mod-eq_of_lt, zero-add, suc-add, add_comm, mul_assoc, pow-suc, pow-succ', div-one, div-div-eq-div-mul}
 use native.Mathlib.Numerals.{add-one}
 use native.Mathlib.Omega.{arith}
 use lib.Arith.{mod-mul}
 use lib.Dec.{lit<}
 use lib.ListN.{length, set, get_or, take, drop, length-append, length-take, length-drop, length-reverse, take-append-drop}
-use lib.Seq.{set_split, append_snoc, take-add, drop-drop, take_at, drop-cons, drop-append-add}
+use lib.Seq.{set_split, append_snoc, take_all, take-add, drop-drop, take_at, drop-cons, drop-append-add}
 pub use Rattle.lists.proofs.Places.{length_splice}
+use Rattle.std.specs.Int.{byte_at, byte_worth, bytes_low_first, bytes_high_first, sum_through}
 use Rattle.records.specs.Numbers.{num, digits, part, splice, Field, little, big, size, value_of, bytes_of, field}
 
 -- every element is a byte
@@ -78,6 +79,13 @@ splice_part s at k h =
     ∙ ap (λ (l : List ℕ). take at s ++ (part s at k ++ l)) (sym (drop-drop k at s))
     ∙ ap (λ (l : List ℕ). take at s ++ l) (take-append-drop k (drop at s))
     ∙ take-append-drop at s
+
+-- what is stored over the part at `at`
+pub splice_over : (s : List ℕ) (at : ℕ) (b : List ℕ) → take at s ++ (b ++ drop (at + length b - at) (drop at s)) ≡ splice s at b
+unfolding splice
+splice_over s at b =
+    sym (append_assoc (take at s) b (drop (at + length b - at) (drop at s)))
+    ∙ ap (λ (l : List ℕ). take at s ++ b ++ l) (drop-drop (at + length b - at) at s ∙ ap (λ (n : ℕ). drop n s) (omega arith))
 
 -- numbers
 num_append' : (a b : List ℕ) → num (a ++ b) ≡ num a + num b * 256 ^ length a
@@ -170,43 +178,82 @@ unfolding value_of
 value_lt (little n) b k e = num_lt n b k e
 value_lt (big n) b k e = num_lt n (reverse b) (bytes_reverse b k) (length-reverse b ∙ e)
 
--- a field of m + n bytes is one of m and one of n
-pub little_add : (m n : ℕ) (s : List ℕ) (at : ℕ) → at + m ≤ length s
-    → field (little m) s at + field (little n) s (at + m) * 256 ^ m ≡ field (little (m + n)) s at
-unfolding value_of
-little_add m n s at h = sym (ap num (part_add s at m n) ∙ num_append (part s at m) (part s (at + m) n) m (length_part s at m h))
+-- ---- std's words for bytes: `from_le_bytes` and its fellows, of any width
+-- the bytes before the n-th, and one more
+take_more : (n : ℕ) (b : List ℕ) → n < length b → take (suc n) b ≡ take n b ++ (get_or b n 0 ∷ [])
+take_more n b h = ap (λ (k : ℕ). take k b) (sym (add-one n)) ∙ take-add n 1 b ∙ ap (λ (l : List ℕ). take n b ++ take 1 l) (drop-cons b n 0 h)
 
-pub little_put : (m n : ℕ) (s : List ℕ) (at v : ℕ) → at + m + n ≤ length s
-    → splice (splice s at (bytes_of (little m) (v % 256 ^ m))) (at + m) (bytes_of (little n) (v / 256 ^ m)) ≡ splice s at (bytes_of (little (m + n)) v)
-unfolding bytes_of
-little_put m n s at v h =
-    let h' : at + m + length (digits n (v / 256 ^ m)) ≤ length s = omega (arith, length_digits n (v / 256 ^ m)) in
-    splice_splice s at m (digits m (v % 256 ^ m)) (digits n (v / 256 ^ m)) (length_digits m _) h'
-    ∙ ap (λ (l : List ℕ). splice s at (l ++ digits n (v / 256 ^ m))) (digits_mod m v)
-    ∙ ap (splice s at) (sym (digits_add m n v))
+worth : (i x : ℕ) → byte_worth i x ≡ x * 256 ^ i
+worth zero x = omega arith
+worth (suc i) x = refl
 
--- a number with its bytes in the other order
-pub swap_one : (v : ℕ) → v < 256 → v ≡ value_of (big 1) (bytes_of (little 1) v)
-unfolding value_of bytes_of num digits
-swap_one v h = sym (add-zero (v % 256) ∙ mod-eq_of_lt h)
+low_sum : (b : List ℕ) (n : ℕ) → n < length b → sum_through (λ i. byte_worth i (get_or b i 0)) n ≡ num (take (suc n) b)
+unfolding num
+low_sum b zero h = sym (ap (λ (l : List ℕ). num (take 1 l)) (drop-cons b 0 0 h) ∙ add-zero (get_or b 0 0))
+low_sum b (suc n) h =
+    let h' : suc n ≤ length b = omega arith in
+    omega (
+      arith,
+      low_sum b n (omega arith),
+      ap num (take_more (suc n) b h),
+      num_append (take (suc n) b) (get_or b (suc n) 0 ∷ []) (suc n) (length-take (suc n) b ∙ omega arith),
+    )
 
-pub swap_add : (m n v : ℕ) → value_of (big m) (bytes_of (little m) (v % 256 ^ m)) * 256 ^ n + value_of (big n) (bytes_of (little n) (v / 256 ^ m)) ≡ value_of (big (m + n)) (bytes_of (little (m + n)) v)
-unfolding value_of bytes_of
-swap_add m n v =
-    let a : List ℕ = digits m v in
-    let b : List ℕ = digits n (v / 256 ^ m) in
-    ap (λ (l : List ℕ). num (reverse l) * 256 ^ n + num (reverse b)) (digits_mod m v)
-    ∙ sym (ap (λ (l : List ℕ). num (reverse l)) (digits_add m n v)
-    ∙ ap num (reverse-append a b)
-    ∙ num_append (reverse b) (reverse a) n (length-reverse b ∙ length_digits n (v / 256 ^ m))
-    ∙ add_comm _ _)
+pub low_num : (b : List ℕ) (n : ℕ) → length b ≡ suc n → sum_through (λ i. byte_worth i (get_or b i 0)) n ≡ num b
+low_num b n e = low_sum b n (omega arith) ∙ ap num (take_all (suc n) b (omega arith))
 
-pub swap_read : (n : ℕ) (b : List ℕ) → Bytes b → length b ≡ n → value_of (big n) (bytes_of (little n) (value_of (little n) b)) ≡ value_of (big n) b
-swap_read n b k e = ap (value_of (big n)) (bytes_value (little n) b k e)
+sum_first : (f : ℕ → ℕ) (n : ℕ) → sum_through f (suc n) ≡ f 0 + sum_through (λ i. f (suc i)) n
+sum_first f zero = refl
+sum_first f (suc n) = omega (arith, sum_first f n)
 
-pub swap_put : (n v : ℕ) → bytes_of (little n) (value_of (big n) (bytes_of (little n) v)) ≡ bytes_of (big n) v
-unfolding value_of bytes_of
-swap_put n v = digits_num n (reverse (digits n v)) (bytes_reverse (digits n v) (bytes_digits n v)) (length-reverse (digits n v) ∙ length_digits n v)
+byte_lem : (i v : ℕ) → byte_at i v ≡ v / 256 ^ i % 256
+byte_lem zero v = ap (λ (k : ℕ). k % 256) (sym (div-one v))
+byte_lem (suc i) v = refl
+
+num_last : (x : ℕ) (xs : List ℕ) → num (reverse (x ∷ xs)) ≡ num (reverse xs) + x * 256 ^ length xs
+unfolding num
+num_last x xs = ap num (reverse-append (x ∷ []) xs) ∙ num_append (reverse xs) (x ∷ []) (length xs) (length-reverse xs) ∙ omega arith
+
+pub high_num : (b : List ℕ) (n : ℕ) → length b ≡ suc n → sum_through (λ i. byte_worth (n - i) (get_or b i 0)) n ≡ num (reverse b)
+unfolding num
+high_num [] n e = absurd (omega (arith, e))
+high_num (x ∷ []) zero e = omega arith
+high_num (x ∷ y ∷ xs) zero e = absurd (omega (arith, e))
+high_num (x ∷ []) (suc n) e = absurd (omega (arith, e))
+high_num (x ∷ y ∷ xs) (suc n) e =
+    let l : length (y ∷ xs) ≡ suc n = omega (arith, e) in
+    let rest : (i : ℕ) → suc n - suc i ≡ n - i = λ i. omega arith in
+    let top : byte_worth (suc n - 0) x ≡ x * 256 ^ length (y ∷ xs) = ap (λ (k : ℕ). byte_worth k x) (let z : suc n - 0 ≡ suc n = omega arith in z) ∙ ap (λ (k : ℕ). x * 256 ^ k) (sym l) in
+    sum_first (λ i. byte_worth (suc n - i) (get_or (x ∷ y ∷ xs) i 0)) n
+    ∙ ap₂ ◌+◌ top ((λ j. sum_through (λ i. byte_worth (rest i j) (get_or (y ∷ xs) i 0)) n) ∙ high_num (y ∷ xs) n l)
+    ∙ add_comm _ _ ∙ sym (num_last x (y ∷ xs))
+
+low_digits : (i k v : ℕ) → bytes_low_first i k v ≡ digits k (v / 256 ^ i)
+unfolding digits
+low_digits i zero v = refl
+low_digits i (suc k) v =
+    ap₂ (λ (x : ℕ) (l : List ℕ). x ∷ l) (byte_lem i v)
+    (low_digits (suc i) k v ∙ ap (digits k) (ap (λ (m : ℕ). v / m) (pow-suc 256 i) ∙ sym (div-div-eq-div-mul v (256 ^ i) 256)))
+
+pub low_bytes : (k v : ℕ) → bytes_low_first 0 k v ≡ digits k v
+low_bytes k v = low_digits 0 k v ∙ ap (digits k) (div-one v)
+
+pub high_bytes : (k v : ℕ) → bytes_high_first k v ≡ reverse (digits k v)
+unfolding digits
+high_bytes zero v = refl
+high_bytes (suc k) v =
+    ap₂ (λ (x : ℕ) (l : List ℕ). x ∷ l) (byte_lem k v) (high_bytes k v)
+    ∙ sym (ap reverse (ap (λ (m : ℕ). digits m v) (sym (add-one k)) ∙ digits_add k 1 v) ∙ reverse-append (digits k v) (digits 1 (v / 256 ^ k)))
+
+-- so what is read or stored by them is a field
+module _ (n : ℕ) (s : List ℕ) (at : ℕ) (b : List ℕ) (e : b ≡ part s at (suc n)) (h : at + suc n ≤ length s) where
+  pub low_read : sum_through (λ i. byte_worth i (get_or b i 0)) n ≡ field (little (suc n)) s at
+  unfolding value_of
+  low_read = low_num b n (ap length e ∙ length_part s at (suc n) h) ∙ ap num e
+
+  pub high_read : sum_through (λ i. byte_worth (n - i) (get_or b i 0)) n ≡ field (big (suc n)) s at
+  unfolding value_of
+  high_read = high_num b n (ap length e ∙ length_part s at (suc n) h) ∙ ap (λ (l : List ℕ). num (reverse l)) e
 
 pub one_at : (s : List ℕ) (at : ℕ) → at < length s → get_or s at 0 ≡ field (little 1) s at
 unfolding value_of num

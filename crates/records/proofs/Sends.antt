@@ -13,14 +13,11 @@ use Rattle.lists.specs.Tests.{◌and◌, Yes, No}
 use Rattle.lists.proofs.Tests.{against, and_i, and_l, and_r, and_t, and_f, by, cond_true, cond_false, cond_both}
 use Rattle.ids.specs.Words.{odd_words}
 use Rattle.records.specs.declared.kinds.Kind.{Kind}
-use Rattle.records.specs.declared.kinds.Row.TheVariants.{Known}
+use Rattle.std.specs.Prelude.{Option, Ok, Err, Some, None}
 use Rattle.records.specs.declared.frame.Frame.{Frame}
-use Rattle.records.specs.declared.frame.Framed.TheVariants.{Record}
 use Rattle.records.specs.declared.requests.Request.{Request}
 use Rattle.records.specs.declared.requests.Request.TheVariants.{Insert, InsertVehicle, Renew, Delete, BeginExpiration, Replace, Acknowledge, ExpireDefunct}
-use Rattle.records.specs.declared.requests.Asked.{Asked}
-use Rattle.records.specs.declared.requests.Asked.TheVariants.{Good, BadField}
-use Rattle.records.specs.declared.sending.Sent.TheVariants.{Done, BadList, ListTooLong}
+use Rattle.records.specs.declared.sending.Unsent.TheVariants.{BadList, ListTooLong}
 use Rattle.records.specs.Numbers.{little, part, splice}
 use Rattle.records.specs.Layouts.{total}
 use Rattle.records.specs.Table.{rows, row_of, units_in, possible, with_units, length_with, in_feed}
@@ -110,15 +107,15 @@ sent_size q r ws h = length_record (kind_of r) (body_of q (normal_request r) ws)
 
 -- ---- "14, 29": the list's conditions, and nothing else, decide whether there is a record
 module _ (r : Request) (ws : List ℕ) where
-  pub is_odd : has_list r ≡ true → Yes (odd_words ws) → needed_on r ws ≡ BadList
+  pub is_odd : has_list r ≡ true → Yes (odd_words ws) → needed_on r ws ≡ Err BadList
   unfolding needed_on
   is_odd t o = cond_true _ _ _ (and_i _ _ t o)
 
-  pub is_long : has_list r ≡ true → No (odd_words ws) → 64 < ids_in ws → needed_on r ws ≡ ListTooLong
+  pub is_long : has_list r ≡ true → No (odd_words ws) → 64 < ids_in ws → needed_on r ws ≡ Err ListTooLong
   unfolding needed_on
   is_long t o h = cond_false _ _ _ (and_t _ _ t ∙ o) ∙ cond_true _ _ _ (and_i _ _ t (lt-ltb _ _ h))
 
-  pub needed_list : (has_list r ≡ true → No (odd_words ws) × (ids_in ws ≤ 64)) → needed_on r ws ≡ Done (size_of r ws)
+  pub needed_list : (has_list r ≡ true → No (odd_words ws) × (ids_in ws ≤ 64)) → needed_on r ws ≡ Ok (size_of r ws)
   unfolding needed_on
   needed_list h = by (has_list r) _
       (λ t. cond_false _ _ _ (and_t _ _ t ∙ (h t).0) ∙ cond_false _ _ _ (and_t _ _ t ∙ le-ltb _ _ (h t).1))
@@ -129,14 +126,14 @@ pub record Room (r : Request) (ws : List ℕ) (n : ℕ) : Type 0 where
   pub list : has_list r ≡ true → No (odd_words ws) × (ids_in ws ≤ 64)
   pub size : n ≡ size_of r ws
 
-room_by : (b o l : Bool) (m n : ℕ) → cond (b and o) BadList (cond (b and l) ListTooLong (Done m)) ≡ Done n → (b ≡ true → No o × No l) × (n ≡ m)
+room_by : (b o l : Bool) (m n : ℕ) → cond (b and o) (Err BadList) (cond (b and l) (Err ListTooLong) (Ok m)) ≡ Ok n → (b ≡ true → No o × No l) × (n ≡ m)
 unfolding ◌and◌
 room_by true true l m n e = absurd (let z : ◌≡◌ {A = ℕ} 0 1 = cc in omega arith)
 room_by true false true m n e = absurd (let z : ◌≡◌ {A = ℕ} 0 1 = cc in omega arith)
 room_by true false false m n e = ((λ t. (refl, refl)), cc)
 room_by false o l m n e = ((λ t. absurd (against refl t)), cc)
 
-pub room_of : (r : Request) (ws : List ℕ) (n : ℕ) → needed_on r ws ≡ Done n → Room r ws n
+pub room_of : (r : Request) (ws : List ℕ) (n : ℕ) → needed_on r ws ≡ Ok n → Room r ws n
 unfolding needed_on
 room_of r ws n e =
     let k = room_by (has_list r) (odd_words ws) (ltb 64 (ids_in ws)) (size_of r ws) n e in
@@ -147,32 +144,32 @@ module _ (q : ℕ) (r : Request) (ws : List ℕ) (k : Sendable q r ws) where
   even : Even r ws
   even t = (k.list t).even
 
-  needed_sendable : needed_on r ws ≡ Done (size_of r ws)
+  needed_sendable : needed_on r ws ≡ Ok (size_of r ws)
   needed_sendable = needed_list r ws (λ t. ((k.list t).even, (k.list t).few))
 
   pub size_sendable : length (request_bytes q r ws) ≡ size_of r ws
   size_sendable = sent_size q r ws even
 
   -- into a buffer with room: the record, and the rest of the buffer
-  pub sent_done : (out : List ℕ) → size_of r ws ≤ length out → send_on q r ws out ≡ leaves (Done (size_of r ws)) (request_bytes q r ws ++ drop (size_of r ws) out)
+  pub sent_done : (out : List ℕ) → size_of r ws ≤ length out → send_on q r ws out ≡ leaves (Ok (size_of r ws)) (request_bytes q r ws ++ drop (size_of r ws) out)
   unfolding send_on splice
   sent_done out h =
       ap (written_by (request_bytes q r ws) out) needed_sendable
       ∙ cond_false _ _ _ (le-ltb _ _ h)
-      ∙ ap (λ (n : ℕ). leaves (Done (size_of r ws)) (request_bytes q r ws ++ drop n out)) (zero-add _ ∙ size_sendable)
+      ∙ ap (λ (n : ℕ). leaves (Ok (size_of r ws)) (request_bytes q r ws ++ drop n out)) (zero-add _ ∙ size_sendable)
 
 -- ---- framed
 -- the table's row of the request's kind
 pub record Due (r : Request) : Type 0 where
   pub row : Kind
-  pub known : row_of (kind_of r) ≡ Known row
+  pub known : row_of (kind_of r) ≡ Some row
   place : row.place ≡ in_feed
   units : (n : ℕ) → units_in row (row.base + row.unit * cond (has_list r) n 0) ≡ cond (has_list r) n 0
 
-plain_due : (r : Request) (w : Kind) → row_of (kind_of r) ≡ Known w → w.place ≡ in_feed → has_list r ≡ false → w.unit ≡ 0 → Due r
+plain_due : (r : Request) (w : Kind) → row_of (kind_of r) ≡ Some w → w.place ≡ in_feed → has_list r ≡ false → w.unit ≡ 0 → Due r
 plain_due r w e p h u = record { row = w; known = e; place = p; units = λ n. sym (units_none w _ u) ∙ sym (cond_false (has_list r) n 0 h) }
 
-counted_due : (r : Request) (w : Kind) → row_of (kind_of r) ≡ Known w → w.place ≡ in_feed → has_list r ≡ true → 0 < w.unit → Due r
+counted_due : (r : Request) (w : Kind) → row_of (kind_of r) ≡ Some w → w.place ≡ in_feed → has_list r ≡ true → 0 < w.unit → Due r
 counted_due r w e p h u =
     record { row = w; known = e; place = p; units = λ n. ap (λ (b : Bool). units_in w (w.base + w.unit * cond b n 0)) h ∙ units_sum w n u ∙ sym (cond_true (has_list r) n 0 h) }
 
@@ -197,7 +194,7 @@ module _ (q : ℕ) (r : Request) (ws : List ℕ) (k : Sendable q r ws) where
   few_units = cond_both (λ (n : ℕ). n ≤ 64) (ids_in ws) 0 (has_list r) (λ t. (k.list t).few) (λ t. omega arith)
 
   -- whatever stands before and after it
-  pub framed : (p t : List ℕ) → frame_at (p ++ (request_bytes q r ws ++ t)) (length p) in_feed ≡ Record (sent_frame (length p) q r ws)
+  pub framed : (p t : List ℕ) → frame_at (p ++ (request_bytes q r ws ++ t)) (length p) in_feed ≡ Ok (sent_frame (length p) q r ws)
   unfolding request_bytes length_with
   framed p t =
       let d = due r in
@@ -210,7 +207,7 @@ module _ (q : ℕ) (r : Request) (ws : List ℕ) (k : Sendable q r ws) where
       let back : length b + 2 - 2 ≡ length b = omega arith in
       ap (frame_at (p ++ (record_of (kind_of r) b ++ t)) (length p)) (sym d.place)
       ∙ frame_record w (kind_of r) d.known p b t (length p) refl fine
-      ∙ (λ i. Record (record { kind = (rule (kind_of r) w d.known).number i; start = length p + 4; size = back i; units = u i; next = sum i }))
+      ∙ (λ i. (Ok (record { kind = (rule (kind_of r) w d.known).number i; start = length p + 4; size = back i; units = u i; next = sum i })))
 
 -- and its body is the part that the frame names
 abbrev pub body_in : List ℕ → Frame → List ℕ
@@ -247,7 +244,7 @@ ids_size : (ws : List ℕ) → IdList ws → length (word_bytes ws) ≡ ids_in w
 ids_size ws k = omega (arith, length_word_bytes ws, even_words ws k.even)
 
 module _ (q : ℕ) (h : q < 2 ^ 32) (ws : List ℕ) where
-  reads : (r : Request) → InTypes r → Right r → (has_list r ≡ true → IdList ws) → request_of (kind_of r) (body_of q r ws) ≡ Good q r
+  reads : (r : Request) → InTypes r → Right r → (has_list r ≡ true → IdList ws) → request_of (kind_of r) (body_of q r ws) ≡ Some (q, r)
   unfolding request_of
   reads (Insert a) k t l = insert_trips.there (q, a) (well active active_lawful active_faithful q h a k t)
   reads (InsertVehicle a) k t l =
@@ -272,7 +269,7 @@ module _ (q : ℕ) (h : q < 2 ^ 32) (ws : List ℕ) where
   words_of (ExpireDefunct now) l = refl
 
 pub there : (q : ℕ) (r : Request) (ws : List ℕ) → Sendable q r ws
-    → (request_of (kind_of r) (body_of q (normal_request r) ws) ≡ Good q (normal_request r))
+    → (request_of (kind_of r) (body_of q (normal_request r) ws) ≡ Some (q, (normal_request r)))
     × (words_read (normal_request r) (body_of q (normal_request r) ws) ≡ cond (has_list r) ws [])
 there q r ws k =
     let s = same_kind r in
@@ -284,7 +281,7 @@ there q r ws k =
 
 -- so of the record that stands anywhere
 pub sent_read : (q : ℕ) (r : Request) (ws : List ℕ) → Sendable q r ws → (p t b : List ℕ) → b ≡ body_in (p ++ (request_bytes q r ws ++ t)) (sent_frame (length p) q r ws)
-    → (request_of (kind_of r) b ≡ Good q (normal_request r)) × (words_read (normal_request r) b ≡ cond (has_list r) ws [])
+    → (request_of (kind_of r) b ≡ Some (q, (normal_request r))) × (words_read (normal_request r) b ≡ cond (has_list r) ws [])
 sent_read q r ws k p t b e =
     let z = there q r ws k in
     let same = e ∙ framed_body q r ws p t in
@@ -297,9 +294,9 @@ record Back (k : ℕ) (b : List ℕ) (q : ℕ) (r : Request) : Type 0 where
   kind : k ≡ kind_of r
   body : body_of q r (words_read r b) ≡ b
 
-abbrev Came : ℕ → List ℕ → Asked → Type 0
-Came k b (Good q r) = Back k b q r
-Came k b BadField = Unit {0}
+abbrev Came : ℕ → List ℕ → Option (ℕ × Request) → Type 0
+Came k b (Some (q, r)) = Back k b q r
+Came k b None = Unit {0}
 
 uncounted : {R : Type 0} (c : Codec R) → Lawful c → (x : R) (n : ℕ) → Well (counted c) (x, n) → Well c x
 uncounted {R} c w x n k =
@@ -316,21 +313,21 @@ module _ (k m : ℕ) (b : List ℕ) (y : Bytes b) (few : m ≤ 64) (size : lengt
   came q r t h f g l e = record { sendable = record { sequence = h; numbers = f; list = l }; right = g; kind = eqb-true k (kind_of r) t; body = e }
 
   module _ {R : Type 0} (c : Codec R) (w : Lawful c) (ask : R → Request) where
-    plain_came : RoundTrips (numbered c) (asked ask) BadField → ((q : ℕ) (x : R) → Well (numbered c) (q, x) → encode_by (numbered c) (q, x) ≡ b → Back k b q (ask x))
-        → Came k b (decode_by (numbered c) (asked ask) BadField b)
+    plain_came : RoundTrips (numbered c) (asked ask) None → ((q : ℕ) (x : R) → Well (numbered c) (q, x) → encode_by (numbered c) (q, x) ≡ b → Back k b q (ask x))
+        → Came k b (decode_by (numbered c) (asked ask) None b)
     plain_came trips f =
         let v = in_body (numbered c) b in
-        cond_both (Came k b) (asked ask ((numbered c).made v)) BadField (eqb (length b) (total (numbered c).layout) and (numbered c).right v)
+        cond_both (Came k b) (asked ask ((numbered c).made v)) None (eqb (length b) (total (numbered c).layout) and (numbered c).right v)
         (λ t. let z = trips.back b ((numbered c).made v) y (cond_true _ _ _ t) in f _ _ z.1 z.0) (λ t. tt)
 
-    counted_came : CountedTrips 2 16 (numbered c) (asked ask) BadField → ((n : ℕ) → length b ≡ total (counted (numbered c)).layout + n * 16 → n ≤ 64)
+    counted_came : CountedTrips 2 16 (numbered c) (asked ask) None → ((n : ℕ) → length b ≡ total (counted (numbered c)).layout + n * 16 → n ≤ 64)
         → ((q : ℕ) (x : R) → Well (numbered c) (q, x) → IdList (words_in (past_count (numbered c) b)) → encode_counted (numbered c) (q, x) (words_in (past_count (numbered c) b)) ≡ b → Back k b q (ask x))
-        → Came k b (decode_counted (numbered c) (asked ask) BadField b)
+        → Came k b (decode_counted (numbered c) (asked ask) None b)
     counted_came trips most f =
         let d = counted (numbered c) in
         let v = in_body d b in
         let x = (d.made v).0 in
-        cond_both (Came k b) (asked ask x) BadField (eqb (length b) (total d.layout + (d.made v).1 * 16) and d.right v)
+        cond_both (Came k b) (asked ask x) None (eqb (length b) (total d.layout + (d.made v).1 * 16) and d.right v)
         (λ t.
         let z = trips.back b x y (cond_true _ _ _ t) in
         let n : ℕ = z.0 in
@@ -357,7 +354,7 @@ module _ (k m : ℕ) (b : List ℕ) (y : Bytes b) (few : m ≤ 64) (size : lengt
       cond_both (Came k b) _ _ (eqb k 23) (λ t. plain_came (number 8) (number_lawful 8) ExpireDefunct expire_defunct_trips (λ q x u e. came q (ExpireDefunct x) t u.fit.0 u.fit.1 tt (λ z. absurd (against refl z)) e)) (λ t. tt))))))))
 
 -- "every record the reader accepts is written back byte for byte"
-module _ (s : List ℕ) (at : ℕ) (f : Frame) (q : ℕ) (r : Request) (y : Bytes s) (e : frame_at s at in_feed ≡ Record f) (g : request_of f.kind (body_in s f) ≡ Good q r) where
+module _ (s : List ℕ) (at : ℕ) (f : Frame) (q : ℕ) (r : Request) (y : Bytes s) (e : frame_at s at in_feed ≡ Ok f) (g : request_of f.kind (body_in s f) ≡ Some (q, r)) where
   length_frame : length (body_in s f) ≡ f.size
   length_frame = let w = whole s at in_feed f e in length_part s f.start f.size (omega (arith, w.starts, w.within))
 
@@ -377,9 +374,9 @@ module _ (s : List ℕ) (at : ℕ) (f : Frame) (q : ℕ) (r : Request) (y : Byte
       (w.sendable, same, ap₂ record_of (sym w.kind) (ap (λ (x : Request). body_of q x (words_read r (body_in s f))) same ∙ w.body) ∙ sym (record_part s at in_feed f y e))
 
   -- so the writer leaves those bytes in any buffer with room, and then the rest of it
-  pub back_sent : (out : List ℕ) → f.size + 4 ≤ length out → send_on q r (words_read r (body_in s f)) out ≡ leaves (Done (f.size + 4)) (part s at (f.size + 4) ++ drop (f.size + 4) out)
+  pub back_sent : (out : List ℕ) → f.size + 4 ≤ length out → send_on q r (words_read r (body_in s f)) out ≡ leaves (Ok (f.size + 4)) (part s at (f.size + 4) ++ drop (f.size + 4) out)
   back_sent out h =
       let b = back in
       let w = whole s at in_feed f e in
       let n : size_of r (words_read r (body_in s f)) ≡ f.size + 4 = sym (size_sendable q r (words_read r (body_in s f)) b.0) ∙ ap length b.2 ∙ length_part s at (f.size + 4) (omega (arith, w.within)) in
-      sent_done q r (words_read r (body_in s f)) b.0 out (omega (arith, n)) ∙ ap₂ (λ (m : ℕ) (x : List ℕ). leaves (Done m) (x ++ drop m out)) n b.2
+      sent_done q r (words_read r (body_in s f)) b.0 out (omega (arith, n)) ∙ ap₂ (λ (m : ℕ) (x : List ℕ). leaves (Ok m) (x ++ drop m out)) n b.2

@@ -2,17 +2,17 @@
 use mathlib.Core.Path.{◌≡◌, sym, ap, ◌∙◌}
 use mathlib.Core.Bool.{Bool, true, false, not}
 use mathlib.Core.List.{List, ◌++◌, append_assoc}
-use Prim.Native.Nat.{ℕ, ◌+◌, ◌-◌, ◌≤◌, ◌<◌}
+use Prim.Native.Nat.{ℕ, ◌+◌, ◌≤◌, ◌<◌}
 use native.Mathlib.Omega.{arith}
 use lib.ListN.{length, take, drop, length-append}
 use lib.Dec.{leb}
 use borrow.Author.Tests.{le-leb, lt-leb, leb-true, leb-false, not-true, not-false}
-use Rattle.lists.proofs.Tests.{cond_true, cond_false, same_test}
+use Rattle.lists.proofs.Tests.{cond_true, cond_false}
 use Rattle.records.specs.Numbers.{part, splice, stored, little, bytes_of}
 use Rattle.records.specs.Layouts.{total, emit}
 use Rattle.records.specs.Table.{length_of}
 use Rattle.records.specs.Framing.{record_of}
-use Rattle.records.specs.Codecs.{Codec, encode_by}
+use Rattle.records.specs.Codecs.{Codec, Counts, encode_by}
 use Rattle.records.proofs.Numbers.{length_bytes_of, length_splice, splice_splice}
 use Rattle.records.proofs.Layouts.{length_pack, emit_pack, splice_in_part}
 use Rattle.records.proofs.Codecs.{Lawful}
@@ -30,17 +30,17 @@ pub frame_stored : (s : List ℕ) (at n k : ℕ) → at + 4 ≤ length s
     → splice (splice s at (bytes_of (little 2) n)) (at + 2) (bytes_of (little 2) k) ≡ splice s at (bytes_of (little 2) n ++ bytes_of (little 2) k)
 frame_stored s at n k h = splice_splice s at 2 (bytes_of (little 2) n) (bytes_of (little 2) k) (length_bytes_of (little 2) n) (omega (arith, length_bytes_of (little 2) k))
 
-module _ {R : Type 0} (c : Codec R) (w : Lawful c) where
-  pub length_body : (r : R) → length (encode_by c r) ≡ total c.layout
-  length_body r = length_pack c.layout (c.numbers r) (w.count r)
+module _ {R : Type 0} (c : Codec R) (w : Counts c) where
+  pub length_counted : (r : R) → length (encode_by c r) ≡ total c.layout
+  length_counted r = length_pack c.layout (c.numbers r) (w r)
 
   -- the fields stored one after the other are the body
   pub body_stored : (r : R) (d : List ℕ) → total c.layout ≤ length d → emit c.layout (c.numbers r) d 0 ≡ splice d 0 (encode_by c r)
-  body_stored r d h = emit_pack c.layout (c.numbers r) d 0 (w.count r) (omega arith)
+  body_stored r d h = emit_pack c.layout (c.numbers r) d 0 (w r) (omega arith)
 
   module _ (k : ℕ) (e : length_of k ≡ total c.layout + 2) where
     length_whole : (r : R) → length (record_of k (encode_by c r)) ≡ total c.layout + 4
-    length_whole r = length_record k (encode_by c r) ∙ ap (λ (n : ℕ). n + 4) (length_body r)
+    length_whole r = length_record k (encode_by c r) ∙ ap (λ (n : ℕ). n + 4) (length_counted r)
 
     not_stored : (s : List ℕ) (at : ℕ) (r : R) → length s < at + (total c.layout + 4) → s ≡ stored s at (record_of k (encode_by c r))
     unfolding stored
@@ -56,7 +56,7 @@ module _ {R : Type 0} (c : Codec R) (w : Lawful c) where
         let b : List ℕ = bytes_of (little 2) k in
         let body : List ℕ = encode_by c r in
         let ab : length (a ++ b) ≡ 4 = simp (length-append, length_bytes_of) in
-        let lb : length body ≡ total c.layout = length_body r in
+        let lb : length body ≡ total c.layout = length_counted r in
         let ls : length s1 ≡ length s = ap length e1 ∙ length_splice s at (a ++ b) (omega arith) in
         let n : length_of k ≡ length body + 2 = e ∙ ap (λ (x : ℕ). x + 2) (sym lb) in
         ap (λ (x : List ℕ). take (at + 4) s1 ++ (x ++ drop m (drop (at + 4) s1))) ey
@@ -71,16 +71,10 @@ module _ {R : Type 0} (c : Codec R) (w : Lawful c) where
       pub left_alone : not b ≡ true → s ≡ stored s at (record_of k (encode_by c r))
       left_alone t = not_stored s at r (no_room b _ _ q t)
 
-      -- the body's part ends where the record does
-      abbrev size : ℕ
-      size = at + (total c.layout + 4) - (at + 4)
+      -- the body's part has so many bytes
+      pub put_whole : not b ≡ false → (m : ℕ) → m ≡ total c.layout → (s1 y : List ℕ) → s1 ≡ splice s at (bytes_of (little 2) (length_of k) ++ bytes_of (little 2) k) → y ≡ splice (part s1 (at + 4) m) 0 (encode_by c r)
+          → take (at + 4) s1 ++ (y ++ drop m (drop (at + 4) s1)) ≡ stored s at (record_of k (encode_by c r))
+      put_whole t m em s1 y e1 ey = record_stored s s1 y at m r (room b _ _ q t) e1 em ey
 
-      pub put_whole : not b ≡ false → (s1 y : List ℕ) → s1 ≡ splice s at (bytes_of (little 2) (length_of k) ++ bytes_of (little 2) k) → y ≡ splice (part s1 (at + 4) size) 0 (encode_by c r)
-          → take (at + 4) s1 ++ (y ++ drop size (drop (at + 4) s1)) ≡ stored s at (record_of k (encode_by c r))
-      put_whole t s1 y e1 ey = record_stored s s1 y at size r (room b _ _ q t) e1 (omega arith) ey
-
--- room, counted from the end
-pub from_end : (at m n : ℕ) → m ≤ n → leb at (n - m) ≡ leb (at + m) n
-from_end at m n h = same_test (leb at (n - m)) (leb (at + m) n)
-    (λ t. le-leb (at + m) n (omega (arith, leb-true at (n - m) t)))
-    (λ t. le-leb at (n - m) (omega (arith, leb-true (at + m) n t)))
+pub length_body : {R : Type 0} (c : Codec R) → Lawful c → (r : R) → length (encode_by c r) ≡ total c.layout
+length_body c w = length_counted c w.count

@@ -1,23 +1,22 @@
 -- The laws of specs/Table.antt. Assumes nothing.
 use mathlib.Core.Path.{◌≡◌, refl, sym, ap, ◌∙◌, subst}
 use mathlib.Core.Bool.{Bool, true, false}
-use mathlib.Core.Option.{Option, none, some}
+use Rattle.std.specs.Prelude.{None, Some}
 use Prim.Native.Nat.{ℕ, ◌+◌, ◌-◌, ◌*◌, ◌/◌, ◌^◌, ◌≤◌, ◌<◌}
 use native.Mathlib.Nat.{div-zero, zero-div, le_of_lt, mul-le-mul, mul-le-mul_left, mul-div_right, zero-mul}
 use native.Mathlib.Omega.{arith}
 use lib.Dec.{eqb, leb, ltb}
 use borrow.Author.Tests.{le-leb, lt-leb, eq-eqb, ne_eqb, eqb-true, leb-true, ltb-true, ltb-false}
 use Rattle.lists.specs.Tests.{◌and◌}
-use Rattle.lists.specs.Lists.{all, find, ascending, Mem}
+use Rattle.lists.specs.Lists.{all, ascending, Mem}
 use Rattle.lists.proofs.Tests.{and_t, and_f, and_l, and_r, and_i, by}
 use Rattle.lists.proofs.Lists.{all→, find→, find_key}
 use Rattle.records.specs.declared.kinds.Kind.{Kind}
-use Rattle.records.specs.declared.kinds.Row.TheVariants.{Known, Unknown}
-use Rattle.records.specs.Table.{rows, is_kind, as_row, row_of, units_in, possible}
+use Rattle.records.specs.Table.{rows, is_kind, row_of, units_in, possible}
 
 -- ---- a kind that is none of the eleven
 pub no_row : (k : ℕ) → (k ≡ 1 → ⊥) → (k ≡ 2 → ⊥) → (k ≡ 3 → ⊥) → (k ≡ 16 → ⊥) → (k ≡ 17 → ⊥) → (k ≡ 18 → ⊥) → (k ≡ 19 → ⊥) → (k ≡ 20 → ⊥) → (k ≡ 21 → ⊥) → (k ≡ 22 → ⊥) → (k ≡ 23 → ⊥)
-    → Unknown ≡ row_of k
+    → None ≡ row_of k
 unfolding row_of rows
 no_row k h1 h2 h3 h16 h17 h18 h19 h20 h21 h22 h23 = simp (ne_eqb 1 k (λ e. h1 (sym e)), ne_eqb 2 k (λ e. h2 (sym e)), ne_eqb 3 k (λ e. h3 (sym e)), ne_eqb 16 k (λ e. h16 (sym e)), ne_eqb 17 k (λ e. h17 (sym e)), ne_eqb 18 k (λ e. h18 (sym e)), ne_eqb 19 k (λ e. h19 (sym e)), ne_eqb 20 k (λ e. h20 (sym e)), ne_eqb 21 k (λ e. h21 (sym e)), ne_eqb 22 k (λ e. h22 (sym e)), ne_eqb 23 k (λ e. h23 (sym e)))
 
@@ -33,10 +32,6 @@ no_kind_twice : ascending (λ r. r.kind) rows ≡ true
 unfolding rows ◌and◌
 no_kind_twice = refl
 
-known : (o : Option Kind) (r : Kind) → as_row o ≡ Known r → o ≡ some r
-known (some x) r e = cc
-known none r e = absurd (let z : ◌≡◌ {A = ℕ} 0 1 = cc in omega arith)
-
 -- of a kind that is known: its row is in the table and holds its number; number and lengths are u16, and a length counts the kind
 pub record Rule (k : ℕ) (r : Kind) : Type 0 where
   pub listed : Mem r rows
@@ -45,10 +40,10 @@ pub record Rule (k : ℕ) (r : Kind) : Type 0 where
   pub short : r.base + r.unit * 64 < 2 ^ 16
   pub small : k < 2 ^ 16
 
-pub rule : (k : ℕ) (r : Kind) → row_of k ≡ Known r → Rule k r
+pub rule : (k : ℕ) (r : Kind) → row_of k ≡ Some r → Rule k r
 unfolding row_of sane
 rule k r e =
-    let f = find→ (is_kind k) rows (known (find (is_kind k) rows) r e) in
+    let f = find→ (is_kind k) rows e in
     let t = all→ sane all_sane f.0 in
     let u = and_l (leb 2 r.base and ltb (r.base + r.unit * 64) (2 ^ 16)) _ t in
     let q : r.kind ≡ k = eqb-true _ _ f.1 in
@@ -61,10 +56,10 @@ rule k r e =
     }
 
 -- so a length with up to 64 units fits its width, and one with any number of them twice that
-pub length_short : (k : ℕ) (r : Kind) → row_of k ≡ Known r → (m : ℕ) → m ≤ 64 → r.base + r.unit * m < 2 ^ 16
+pub length_short : (k : ℕ) (r : Kind) → row_of k ≡ Some r → (m : ℕ) → m ≤ 64 → r.base + r.unit * m < 2 ^ 16
 length_short k r e m h = omega (arith, (rule k r e).short, mul-le-mul_left r.unit h)
 
-pub with_units_fits : (k : ℕ) (r : Kind) → row_of k ≡ Known r → (m : ℕ) → m < 2 ^ 16 → r.base + r.unit * m < 2 ^ 32
+pub with_units_fits : (k : ℕ) (r : Kind) → row_of k ≡ Some r → (m : ℕ) → m < 2 ^ 16 → r.base + r.unit * m < 2 ^ 32
 with_units_fits k r e m h =
     let s = (rule k r e).short in
     let few : r.unit ≤ 1024 = omega (arith, s) in
@@ -72,9 +67,9 @@ with_units_fits k r e m h =
     omega (arith, s, mul-le-mul few most)
 
 -- each row of the table is the one of its kind
-pub row_of_its_kind : {r : Kind} → Mem r rows → row_of r.kind ≡ Known r
+pub row_of_its_kind : {r : Kind} → Mem r rows → row_of r.kind ≡ Some r
 unfolding row_of
-row_of_its_kind {r} m = ap as_row (find_key (λ x. x.kind) rows no_kind_twice r.kind m refl)
+row_of_its_kind {r} m = find_key (λ x. x.kind) rows no_kind_twice r.kind m refl
 
 -- ---- units and lengths
 module _ (r : Kind) (n : ℕ) where

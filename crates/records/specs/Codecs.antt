@@ -1,5 +1,5 @@
 -- A record's body as bytes. Assumes nothing.
-use Rattle.std.specs.Prelude.{ℕ, ◌+◌, ◌*◌, Bool, true, cond, List, [], ◌∷◌, ◌++◌, length, get_or, take, drop, eqb}
+use Rattle.std.specs.Prelude.{ℕ, ◌≡◌, ◌+◌, ◌*◌, Bool, true, cond, List, [], ◌∷◌, ◌++◌, length, get_or, take, drop, eqb}
 use Rattle.lists.specs.Tests.{◌and◌}
 use Rattle.records.specs.Numbers.{Field, little}
 use Rattle.records.specs.Layouts.{total, fields_at, pack, emit}
@@ -10,6 +10,10 @@ pub record Codec (R : Type 0) : Type 0 where
   pub made : List ℕ → R
   pub numbers : R → List ℕ
   pub right : List ℕ → Bool
+
+-- a number for each field
+abbrev pub Counts : {R : Type 0} → Codec R → Type 0
+Counts {R} c = (r : R) → length (c.numbers r) ≡ length c.layout
 
 -- the numbers in the body s
 abbrev pub in_body : {R : Type 0} → Codec R → List ℕ → List ℕ

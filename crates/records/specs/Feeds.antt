@@ -8,8 +8,7 @@ use Rattle.records.specs.declared.requests.ExpirationRequest.{ExpirationRequest}
 use Rattle.records.specs.declared.requests.ReplaceRequest.{ReplaceRequest}
 use Rattle.records.specs.declared.requests.Request.{Request}
 use Rattle.records.specs.declared.requests.Request.TheVariants.{Insert, InsertVehicle, Renew, Delete, BeginExpiration, Replace, Acknowledge, ExpireDefunct}
-use Rattle.records.specs.declared.requests.Asked.{Asked}
-use Rattle.records.specs.declared.requests.Asked.TheVariants.{Good, BadField}
+use Rattle.std.specs.Prelude.{Option, Some, None}
 use Rattle.records.specs.Numbers.{little, big}
 use Rattle.records.specs.Layouts.{fields_at, total}
 use Rattle.records.specs.Codecs.{Codec, decode_by, decode_counted, counted, joined, number, pair}
@@ -73,36 +72,36 @@ abbrev pub replacement : Codec ReplaceRequest
 replacement = joined active breaking replacement_with (λ r. r.lock) replacement_rest
 
 -- a sequence and what is asked under it
-abbrev pub asked : {R : Type 0} → (R → Request) → ℕ × R → Asked
-asked ask p = Good p.0 (ask p.1)
+abbrev pub asked : {R : Type 0} → (R → Request) → ℕ × R → Option (ℕ × Request)
+asked ask p = Some (p.0, (ask p.1))
 
 -- "16 ACTIVE body; 17 ACTIVE body, count 2, ids; 18 id, expiry 8, now 8, has-metadata 1, metadata 4; 19 and 22 id; 20 id,
 -- now 8; 21 ACTIVE body, broken by 4, broken at 8, count 2, ids; 23 now 8"
-abbrev pub insert_of : List ℕ → Asked
-insert_of = decode_by (numbered active) (asked Insert) BadField
+abbrev pub insert_of : List ℕ → Option (ℕ × Request)
+insert_of = decode_by (numbered active) (asked Insert) None
 
-abbrev pub insert_vehicle_of : List ℕ → Asked
-insert_vehicle_of = decode_counted (numbered active) (asked InsertVehicle) BadField
+abbrev pub insert_vehicle_of : List ℕ → Option (ℕ × Request)
+insert_vehicle_of = decode_counted (numbered active) (asked InsertVehicle) None
 
-abbrev pub renew_of : List ℕ → Asked
-renew_of = decode_by (numbered renewal) (asked Renew) BadField
+abbrev pub renew_of : List ℕ → Option (ℕ × Request)
+renew_of = decode_by (numbered renewal) (asked Renew) None
 
-abbrev pub delete_of : List ℕ → Asked
-delete_of = decode_by (numbered target) (asked Delete) BadField
+abbrev pub delete_of : List ℕ → Option (ℕ × Request)
+delete_of = decode_by (numbered target) (asked Delete) None
 
-abbrev pub begin_expiration_of : List ℕ → Asked
-begin_expiration_of = decode_by (numbered expiration) (asked BeginExpiration) BadField
+abbrev pub begin_expiration_of : List ℕ → Option (ℕ × Request)
+begin_expiration_of = decode_by (numbered expiration) (asked BeginExpiration) None
 
-abbrev pub replace_of : List ℕ → Asked
-replace_of = decode_counted (numbered replacement) (asked Replace) BadField
+abbrev pub replace_of : List ℕ → Option (ℕ × Request)
+replace_of = decode_counted (numbered replacement) (asked Replace) None
 
-abbrev pub acknowledge_of : List ℕ → Asked
-acknowledge_of = decode_by (numbered target) (asked Acknowledge) BadField
+abbrev pub acknowledge_of : List ℕ → Option (ℕ × Request)
+acknowledge_of = decode_by (numbered target) (asked Acknowledge) None
 
-abbrev pub expire_defunct_of : List ℕ → Asked
-expire_defunct_of = decode_by (numbered (number 8)) (asked ExpireDefunct) BadField
+abbrev pub expire_defunct_of : List ℕ → Option (ℕ × Request)
+expire_defunct_of = decode_by (numbered (number 8)) (asked ExpireDefunct) None
 
-unfoldable pub request_of : ℕ → List ℕ → Asked
+unfoldable pub request_of : ℕ → List ℕ → Option (ℕ × Request)
 request_of k s =
     cond (eqb k 16) (insert_of s)
     (cond (eqb k 17) (insert_vehicle_of s)
@@ -111,7 +110,7 @@ request_of k s =
     (cond (eqb k 20) (begin_expiration_of s)
     (cond (eqb k 21) (replace_of s)
     (cond (eqb k 22) (acknowledge_of s)
-    (cond (eqb k 23) (expire_defunct_of s) BadField)))))))
+    (cond (eqb k 23) (expire_defunct_of s) None)))))))
 
 -- "17 ACTIVE body, count 2, ids", "21 ACTIVE body, broken by 4, broken at 8, count 2, ids": the bytes of the ids, which follow
 -- what the count ends; no other body has any

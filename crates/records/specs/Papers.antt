@@ -2,36 +2,31 @@
 -- numbers of its fields; "kind not due here, 18", "count .. or field wrong, 19", whose offset the caller adds. Assumes nothing.
 use Rattle.std.specs.Prelude.{ℕ, List, [], ◌∷◌}
 use Rattle.lists.specs.Papers.{Paper, paper}
-use Rattle.records.specs.declared.kinds.Row.{Row}
-use Rattle.records.specs.declared.kinds.Row.TheVariants.{Known, Unknown}
-use Rattle.records.specs.declared.bodies.HeadRead.{HeadRead}
-use Rattle.records.specs.declared.bodies.HeadRead.TheVariants as H
-use Rattle.records.specs.declared.bodies.ActiveRead.{ActiveRead}
-use Rattle.records.specs.declared.bodies.ActiveRead.TheVariants as A
-use Rattle.records.specs.declared.bodies.DefunctRead.{DefunctRead}
-use Rattle.records.specs.declared.bodies.DefunctRead.TheVariants as D
+use Rattle.std.specs.Prelude.{Option, Some, None}
+use Rattle.records.specs.declared.kinds.Kind.{Kind}
+use Rattle.records.specs.declared.bodies.Head.{Head}
+use Rattle.state.specs.declared.ActiveLock.{ActiveLock}
+use Rattle.state.specs.declared.DefunctLock.{DefunctLock}
 use Rattle.records.specs.declared.requests.Request.{Request}
 use Rattle.records.specs.declared.requests.Request.TheVariants.{Insert, InsertVehicle, Renew, Delete, BeginExpiration, Replace, Acknowledge, ExpireDefunct}
-use Rattle.records.specs.declared.requests.Asked.{Asked}
-use Rattle.records.specs.declared.requests.Asked.TheVariants.{Good, BadField}
 use Rattle.records.specs.Wire.{head, active, defunct}
 use Rattle.records.specs.Feeds.{target, renewal, expiration, replacement}
 
-unfoldable pub row_paper : Row → Paper
-row_paper (Known k) = paper 0 (k.kind ∷ k.base ∷ k.unit ∷ k.place ∷ [])
-row_paper Unknown = paper 18 []
+unfoldable pub row_paper : Option Kind → Paper
+row_paper (Some k) = paper 0 (k.kind ∷ k.base ∷ k.unit ∷ k.place ∷ [])
+row_paper None = paper 18 []
 
-unfoldable pub head_paper : HeadRead → Paper
-head_paper (H.Good h) = paper 0 (head.numbers h)
-head_paper H.BadField = paper 19 []
+unfoldable pub head_paper : Option Head → Paper
+head_paper (Some h) = paper 0 (head.numbers h)
+head_paper None = paper 19 []
 
-unfoldable pub active_paper : ActiveRead → Paper
-active_paper (A.Good a) = paper 0 (active.numbers a)
-active_paper A.BadField = paper 19 []
+unfoldable pub active_paper : Option ActiveLock → Paper
+active_paper (Some a) = paper 0 (active.numbers a)
+active_paper None = paper 19 []
 
-unfoldable pub defunct_paper : DefunctRead → Paper
-defunct_paper (D.Good d) = paper 0 (defunct.numbers d)
-defunct_paper D.BadField = paper 19 []
+unfoldable pub defunct_paper : Option DefunctLock → Paper
+defunct_paper (Some d) = paper 0 (defunct.numbers d)
+defunct_paper None = paper 19 []
 
 -- a request by its kind and the numbers of its body
 abbrev pub request_values : Request → List ℕ
@@ -44,6 +39,6 @@ request_values (Replace r) = 21 ∷ replacement.numbers r
 request_values (Acknowledge i) = 22 ∷ target.numbers i
 request_values (ExpireDefunct t) = 23 ∷ t ∷ []
 
-unfoldable pub asked_paper : Asked → Paper
-asked_paper (Good sequence r) = paper 0 (sequence ∷ request_values r)
-asked_paper BadField = paper 19 []
+unfoldable pub asked_paper : Option (ℕ × Request) → Paper
+asked_paper (Some (sequence, r)) = paper 0 (sequence ∷ request_values r)
+asked_paper None = paper 19 []

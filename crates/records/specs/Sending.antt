@@ -9,8 +9,9 @@ use Rattle.records.specs.declared.requests.RenewRequest.{RenewRequest}
 use Rattle.records.specs.declared.requests.ReplaceRequest.{ReplaceRequest}
 use Rattle.records.specs.declared.requests.Request.{Request}
 use Rattle.records.specs.declared.requests.Request.TheVariants.{Insert, InsertVehicle, Renew, Delete, BeginExpiration, Replace, Acknowledge, ExpireDefunct}
-use Rattle.records.specs.declared.sending.Sent.{Sent}
-use Rattle.records.specs.declared.sending.Sent.TheVariants.{Done, BadList, ListTooLong, ShortOutput}
+use Rattle.std.specs.Prelude.{Result, Ok, Err}
+use Rattle.records.specs.declared.sending.Unsent.{Unsent}
+use Rattle.records.specs.declared.sending.Unsent.TheVariants.{BadList, ListTooLong, ShortOutput}
 use Rattle.records.specs.Numbers.{big, bytes_of, bytes_of_all, splice}
 use Rattle.records.specs.Table.{length_with}
 use Rattle.records.specs.Framing.{record_of}
@@ -92,33 +93,31 @@ size_of r ws = 2 + length_with (kind_of r) (units_of r ws)
 
 -- ---- "Refusals: 14, 29 ListTooLong (over 64 ids), 21, in this order."
 -- of the list; else the size of the record
-unfoldable pub needed_on : Request → List ℕ → Sent
+unfoldable pub needed_on : Request → List ℕ → Result ℕ Unsent
 needed_on r ws =
-    cond (has_list r and odd_words ws) BadList
-    (cond (has_list r and ltb 64 (ids_in ws)) ListTooLong
-    (Done (size_of r ws)))
+    cond (has_list r and odd_words ws) (Err BadList)
+    (cond (has_list r and ltb 64 (ids_in ws)) (Err ListTooLong)
+    (Ok (size_of r ws)))
 
 -- the answer, and the buffer as the call leaves it: "a refusal returns only its number and the data shown, and [..] buffers keep
 -- their bytes; a success keeps bytes past its output"
 pub record Written : Type 0 where
-  pub told : Sent
+  pub told : Result ℕ Unsent
   pub out : List ℕ
 
-abbrev pub leaves : Sent → List ℕ → Written
+abbrev pub leaves : Result ℕ Unsent → List ℕ → Written
 leaves t out = record { told = t; out = out }
 
-abbrev pub written_by : List ℕ → List ℕ → Sent → Written
-written_by bytes out (Done n) = cond (ltb (length out) n) (leaves (ShortOutput n) out) (leaves (Done n) (splice out 0 bytes))
-written_by bytes out BadList = leaves BadList out
-written_by bytes out ListTooLong = leaves ListTooLong out
-written_by bytes out (ShortOutput n) = leaves (ShortOutput n) out
+abbrev pub written_by : List ℕ → List ℕ → Result ℕ Unsent → Written
+written_by bytes out (Ok n) = cond (ltb (length out) n) (leaves (Err (ShortOutput n)) out) (leaves (Ok n) (splice out 0 bytes))
+written_by bytes out (Err e) = leaves (Err e) out
 
 unfoldable pub send_on : ℕ → Request → List ℕ → List ℕ → Written
 send_on q r ws out = written_by (request_bytes q r ws) out (needed_on r ws)
 
 -- on paper
-unfoldable pub sent_paper : Sent → Paper
-sent_paper (Done n) = paper 0 (n ∷ [])
-sent_paper BadList = paper 14 []
-sent_paper ListTooLong = paper 29 []
-sent_paper (ShortOutput n) = paper 21 (n ∷ [])
+unfoldable pub sent_paper : Result ℕ Unsent → Paper
+sent_paper (Ok n) = paper 0 (n ∷ [])
+sent_paper (Err BadList) = paper 14 []
+sent_paper (Err ListTooLong) = paper 29 []
+sent_paper (Err (ShortOutput n)) = paper 21 (n ∷ [])

@@ -1,11 +1,9 @@
 -- The kinds of records and their lengths, as document 01 lists them. Assumes nothing.
 use Rattle.std.specs.Prelude.{ℕ, ◌+◌, ◌-◌, ◌*◌, ◌/◌, Bool, List, [], ◌∷◌, eqb, leb}
-use Rattle.std.proofs.Math.Option.{Option, none, some}
+use Rattle.std.specs.Prelude.{Option, None, Some}
 use Rattle.lists.specs.Tests.{◌and◌}
 use Rattle.lists.specs.Lists.{find}
 use Rattle.records.specs.declared.kinds.Kind.{Kind}
-use Rattle.records.specs.declared.kinds.Row.{Row}
-use Rattle.records.specs.declared.kinds.Row.TheVariants.{Known, Unknown}
 
 abbrev pub row : ℕ → ℕ → ℕ → ℕ → Kind
 row k n u p = record { kind = k; base = n; unit = u; place = p }
@@ -31,15 +29,11 @@ rows =
     ∷ row 16 93 0 in_feed ∷ row 17 95 16 in_feed ∷ row 18 43 0 in_feed ∷ row 19 22 0 in_feed
     ∷ row 20 30 0 in_feed ∷ row 21 107 16 in_feed ∷ row 22 22 0 in_feed ∷ row 23 14 0 in_feed ∷ []
 
-abbrev pub as_row : Option Kind → Row
-as_row (some r) = Known r
-as_row none = Unknown
-
 abbrev pub is_kind : ℕ → Kind → Bool
 is_kind k r = eqb r.kind k
 
-unfoldable pub row_of : ℕ → Row
-row_of k = as_row (find (is_kind k) rows)
+unfoldable pub row_of : ℕ → Option Kind
+row_of k = find (is_kind k) rows
 
 -- the units that a length n leaves past the base; a kind without a unit has none (a quotient by 0 is 0)
 unfoldable pub units_in : Kind → ℕ → ℕ
@@ -50,17 +44,17 @@ unfoldable pub possible : Kind → ℕ → Bool
 possible r n = leb (units_in r n) 64 and eqb (r.base + r.unit * units_in r n) n
 
 -- the base of a kind: what a record without units has as its length; 0 where there is no such kind
-abbrev pub base_in : Row → ℕ
-base_in (Known r) = r.base
-base_in Unknown = 0
+abbrev pub base_in : Option Kind → ℕ
+base_in (Some r) = r.base
+base_in None = 0
 
 unfoldable pub length_of : ℕ → ℕ
 length_of k = base_in (row_of k)
 
 -- and with n units
-abbrev pub with_units : ℕ → Row → ℕ
-with_units n (Known r) = r.base + r.unit * n
-with_units n Unknown = 0
+abbrev pub with_units : ℕ → Option Kind → ℕ
+with_units n (Some r) = r.base + r.unit * n
+with_units n None = 0
 
 unfoldable pub length_with : ℕ → ℕ → ℕ
 length_with k n = with_units n (row_of k)

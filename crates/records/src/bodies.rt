@@ -1,11 +1,14 @@
-// The bodies of HEAD, ACTIVE and DEFUNCT: each is read from a part of a slice that is that body.
+// The bodies that a lock, an id, a time and HEAD make: each is read from a part of a slice that is that body, and stored there.
 // SPDX-License-Identifier: Apache-2.0
-ghost use Rattle.std.specs.Prelude.{◌≡◌, ◌+◌, ◌≤◌, length};
+ghost use Rattle.std.specs.Prelude.{◌≡◌, ◌+◌, ◌≤◌, Some, None, length, take, refl, true};
+ghost use Rattle.std.proofs.Common.{lit≤};
 ghost use Rattle.records.specs.Numbers.{field, big};
 ghost use Rattle.records.specs.Layouts.{total};
-ghost use Rattle.records.specs.Codecs.{in_body, decode_by};
-ghost use Rattle.records.specs.Wire.{id, scope_of, scope_right, set_right, parent_right, lock_start, active, defunct, head};
+ghost use Rattle.records.specs.Codecs.{in_body, decode_by, put_fields, number};
+ghost use Rattle.records.specs.Wire.{flag, scope_kind, scope_number, id, scope_of, scope_right, set_right, parent_right, lock_start, active, defunct, head};
+ghost use Rattle.records.specs.Feeds.{target};
 
+use crate::body::{Body, decode};
 use crate::{fields, layout};
 use coverage::LockCoverage;
 use ids::LockId;
@@ -23,24 +26,6 @@ pub struct Head {
     pub expected: u32,
     pub actives: u16,
     pub defuncts: u16,
-}
-
-#[derive(Clone, Copy)]
-pub enum HeadRead {
-    Good(Head),
-    BadField,
-}
-
-#[derive(Clone, Copy)]
-pub enum ActiveRead {
-    Good(ActiveLock),
-    BadField,
-}
-
-#[derive(Clone, Copy)]
-pub enum DefunctRead {
-    Good(DefunctLock),
-    BadField,
 }
 
 // ---- what is right of the numbers
@@ -81,19 +66,6 @@ fn lock_right(s: &[u8]) -> bool
     scope & exclusive & set
 }
 
-pub(crate) fn active_right(s: &[u8]) -> bool
-    requires { total active.layout ≤ length s.now }
-    ensures { result ≡ active.right (in_body active s.now) }
-{
-    let lock = lock_right(s);
-    let parent = parent_right(
-        fields::u8_at(s, layout::HAS_PARENT),
-        fields::big64_at(s, layout::PARENT),
-        fields::big64_at(s, layout::PARENT_LO),
-    );
-    lock & parent
-}
-
 // ---- what the numbers make
 pub(crate) fn id_at(s: &[u8], at: usize) -> LockId
     requires { at + 16 ≤ length s.now }
@@ -105,6 +77,7 @@ pub(crate) fn id_at(s: &[u8], at: usize) -> LockId
     }
 }
 
+// Total, as `made` of a codec is (specs/Wire.antt): `scope_right` guards it.
 pub fn scope_of(kind: u8, number: u8) -> ScopeKey
     ensures { result ≡ scope_of kind number }
 {
@@ -142,78 +115,247 @@ fn lock_made(s: &[u8]) -> Lock
     }
 }
 
-pub(crate) fn active_made(s: &[u8]) -> ActiveLock
-    requires { total active.layout ≤ length s.now }
-    ensures { result ≡ active.made (in_body active s.now) }
+// ---- what is stored for them
+pub(crate) fn flag_of(b: bool) -> u8
+    ensures { result ≡ flag b }
 {
-    ActiveLock {
-        lock: lock_made(s),
-        parent: id_at(s, layout::PARENT),
-        expires: fields::u64_at(s, layout::EXPIRY),
-        child: fields::u8_at(s, layout::HAS_PARENT) == 1,
+    b as u8
+}
+
+// A scope's kind and number.
+fn numbers_of(k: ScopeKey) -> (u8, u8)
+    ensures { result ≡ (scope_kind k, scope_number k) }
+{
+    match k {
+        ScopeKey::Vehicle => (0, 0),
+        ScopeKey::Ecu(n) => (1, n),
+        ScopeKey::FunctionalGroup(n) => (2, n),
     }
 }
 
-fn defunct_made(s: &[u8]) -> DefunctLock
-    requires { total defunct.layout ≤ length s.now }
-    ensures { result ≡ defunct.made (in_body defunct s.now) }
+// ---- a lock start, in three pieces: id, scope and flags; the set; the rest
+fn put_start(out: &mut [u8], l: Lock)
+    requires { total lock_start.layout ≤ length out.old }
+    ensures { out.new ≡ put_fields lock_start 0 6 l out.old 0 }
 {
-    DefunctLock {
-        lock: lock_made(s),
-        target: id_at(s, layout::TARGET),
-        expires: fields::u64_at(s, layout::EXPIRY),
-        broken: fields::u64_at(s, layout::BROKEN_AT),
-        breaker: fields::u32_at(s, layout::BROKEN_BY),
-        holder: fields::u16_at(s, layout::HOLDER),
+    let (kind, number) = numbers_of(l.scope);
+    fields::put_big64(out, 0, l.id.hi);
+    fields::put_big64(out, layout::HALF, l.id.lo);
+    fields::put_u8(out, layout::SCOPE_KIND, kind);
+    fields::put_u8(out, layout::SCOPE_NUMBER, number);
+    fields::put_u8(out, layout::EXCLUSIVE, flag_of(l.exclusive));
+    fields::put_u8(out, layout::COVERAGE_KIND, flag_of(!l.coverage.whole));
+}
+
+fn put_set(out: &mut [u8], l: Lock)
+    requires { total lock_start.layout ≤ length out.old }
+    ensures { out.new ≡ put_fields lock_start 6 4 l out.old (total (take 6 lock_start.layout)) }
+{
+    fields::put_u64(out, layout::SET, l.coverage.w0);
+    fields::put_u64(out, layout::SET_1, l.coverage.w1);
+    fields::put_u64(out, layout::SET_2, l.coverage.w2);
+    fields::put_u64(out, layout::SET_3, l.coverage.w3);
+}
+
+fn put_lock(out: &mut [u8], l: Lock)
+    requires { total lock_start.layout ≤ length out.old }
+    ensures { out.new ≡ put_fields lock_start 0 13 l out.old 0 }
+{
+    put_start(out, l);
+    put_set(out, l);
+    fields::put_u16(out, layout::SUBJECT, l.subject);
+    fields::put_u32(out, layout::PRINCIPAL, l.principal);
+    fields::put_u32(out, layout::METADATA, l.metadata);
+}
+
+// ---- HEAD
+impl Body for Head {
+    ghost codec = { head };
+
+    ghost SIZE = { 16 };
+
+    ghost sized = { refl };
+
+    ghost small = { lit≤ tt };
+
+    ghost counts = { λ h. refl };
+
+    const SIZE: usize = layout::HEAD;
+
+    fn right(s: &[u8]) -> bool {
+        let h = Head::made(s);
+        (h.actives <= MOST_ACTIVES) & (h.defuncts <= MOST_DEFUNCTS)
+    }
+
+    fn made(s: &[u8]) -> Head {
+        Head {
+            revision: fields::u64_at(s, 0),
+            expected: fields::u32_at(s, layout::EXPECTED),
+            actives: fields::u16_at(s, layout::ACTIVES),
+            defuncts: fields::u16_at(s, layout::DEFUNCTS),
+        }
+    }
+
+    fn put(self, out: &mut [u8]) {
+        fields::put_u64(out, 0, self.revision);
+        fields::put_u32(out, layout::EXPECTED, self.expected);
+        fields::put_u16(out, layout::ACTIVES, self.actives);
+        fields::put_u16(out, layout::DEFUNCTS, self.defuncts);
     }
 }
 
-fn head_made(s: &[u8]) -> Head
-    requires { total head.layout ≤ length s.now }
-    ensures { result ≡ head.made (in_body head s.now) }
-{
-    Head {
-        revision: fields::u64_at(s, 0),
-        expected: fields::u32_at(s, layout::EXPECTED),
-        actives: fields::u16_at(s, layout::ACTIVES),
-        defuncts: fields::u16_at(s, layout::DEFUNCTS),
+// ---- ACTIVE
+impl Body for ActiveLock {
+    ghost codec = { active };
+
+    ghost SIZE = { 87 };
+
+    ghost sized = { refl };
+
+    ghost small = { lit≤ tt };
+
+    ghost counts = { λ a. refl };
+
+    const SIZE: usize = layout::ACTIVE;
+
+    fn right(s: &[u8]) -> bool {
+        let lock = lock_right(s);
+        let parent = parent_right(
+            fields::u8_at(s, layout::HAS_PARENT),
+            fields::big64_at(s, layout::PARENT),
+            fields::big64_at(s, layout::PARENT_LO),
+        );
+        lock & parent
+    }
+
+    fn made(s: &[u8]) -> ActiveLock {
+        ActiveLock {
+            lock: lock_made(s),
+            parent: id_at(s, layout::PARENT),
+            expires: fields::u64_at(s, layout::EXPIRY),
+            child: fields::u8_at(s, layout::HAS_PARENT) == 1,
+        }
+    }
+
+    fn put(self, out: &mut [u8]) {
+        put_lock(out, self.lock);
+        fields::put_u64(out, layout::EXPIRY, self.expires);
+        fields::put_u8(out, layout::HAS_PARENT, flag_of(self.child));
+        fields::put_big64(out, layout::PARENT, self.parent.hi);
+        fields::put_big64(out, layout::PARENT_LO, self.parent.lo);
     }
 }
 
-// ---- the three bodies
-pub fn decode_head(s: &[u8]) -> HeadRead
-    ensures { result ≡ decode_by head HeadRead.Good HeadRead.BadField s.now }
-{
-    if s.len() != layout::HEAD {
-        return HeadRead::BadField;
+// ---- DEFUNCT
+impl Body for DefunctLock {
+    ghost codec = { defunct };
+
+    ghost SIZE = { 100 };
+
+    ghost sized = { refl };
+
+    ghost small = { lit≤ tt };
+
+    ghost counts = { λ d. refl };
+
+    const SIZE: usize = layout::DEFUNCT;
+
+    fn right(s: &[u8]) -> bool {
+        lock_right(s)
     }
-    let h = head_made(s);
-    if (h.actives <= MOST_ACTIVES) & (h.defuncts <= MOST_DEFUNCTS) {
-        return HeadRead::Good(h);
+
+    fn made(s: &[u8]) -> DefunctLock {
+        DefunctLock {
+            lock: lock_made(s),
+            target: id_at(s, layout::TARGET),
+            expires: fields::u64_at(s, layout::EXPIRY),
+            broken: fields::u64_at(s, layout::BROKEN_AT),
+            breaker: fields::u32_at(s, layout::BROKEN_BY),
+            holder: fields::u16_at(s, layout::HOLDER),
+        }
     }
-    HeadRead::BadField
+
+    fn put(self, out: &mut [u8]) {
+        put_lock(out, self.lock);
+        fields::put_u64(out, layout::EXPIRY, self.expires);
+        fields::put_u64(out, layout::BROKEN_AT, self.broken);
+        fields::put_u32(out, layout::BROKEN_BY, self.breaker);
+        fields::put_big64(out, layout::TARGET, self.target.hi);
+        fields::put_big64(out, layout::TARGET_LO, self.target.lo);
+        fields::put_u16(out, layout::HOLDER, self.holder);
+    }
 }
 
-pub fn decode_active(s: &[u8]) -> ActiveRead
-    ensures { result ≡ decode_by active ActiveRead.Good ActiveRead.BadField s.now }
-{
-    if s.len() != layout::ACTIVE {
-        return ActiveRead::BadField;
+// ---- an id alone, a time alone: the feed has such bodies
+impl Body for LockId {
+    ghost codec = { target };
+
+    ghost SIZE = { 16 };
+
+    ghost sized = { refl };
+
+    ghost small = { lit≤ tt };
+
+    ghost counts = { λ i. refl };
+
+    const SIZE: usize = layout::ID;
+
+    fn right(s: &[u8]) -> bool {
+        true
     }
-    if active_right(s) {
-        return ActiveRead::Good(active_made(s));
+
+    fn made(s: &[u8]) -> LockId {
+        id_at(s, 0)
     }
-    ActiveRead::BadField
+
+    fn put(self, out: &mut [u8]) {
+        fields::put_big64(out, 0, self.hi);
+        fields::put_big64(out, layout::HALF, self.lo);
+    }
 }
 
-pub fn decode_defunct(s: &[u8]) -> DefunctRead
-    ensures { result ≡ decode_by defunct DefunctRead.Good DefunctRead.BadField s.now }
+impl Body for u64 {
+    ghost codec = { number 8 };
+
+    ghost SIZE = { 8 };
+
+    ghost sized = { refl };
+
+    ghost small = { lit≤ tt };
+
+    ghost counts = { λ x. refl };
+
+    const SIZE: usize = layout::TIME;
+
+    fn right(s: &[u8]) -> bool {
+        true
+    }
+
+    fn made(s: &[u8]) -> u64 {
+        fields::u64_at(s, 0)
+    }
+
+    fn put(self, out: &mut [u8]) {
+        fields::put_u64(out, 0, self);
+    }
+}
+
+// ---- the three bodies of an image, each under the name that docs/PROMISES.md has: the generic reader stands on a trait whose
+// functions ask for room, so it is the crate's own. None: a length, count or field is wrong (19).
+pub fn decode_head(s: &[u8]) -> Option<Head>
+    ensures { result ≡ decode_by head Some None s.now }
 {
-    if s.len() != layout::DEFUNCT {
-        return DefunctRead::BadField;
-    }
-    if lock_right(s) {
-        return DefunctRead::Good(defunct_made(s));
-    }
-    DefunctRead::BadField
+    decode(s)
+}
+
+pub fn decode_active(s: &[u8]) -> Option<ActiveLock>
+    ensures { result ≡ decode_by active Some None s.now }
+{
+    decode(s)
+}
+
+pub fn decode_defunct(s: &[u8]) -> Option<DefunctLock>
+    ensures { result ≡ decode_by defunct Some None s.now }
+{
+    decode(s)
 }

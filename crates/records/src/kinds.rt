@@ -5,7 +5,8 @@ ghost use Rattle.records.specs.Table.{row_of, units_in, possible, length_of, len
 
 use crate::layout;
 
-// The kinds: of an image, then of a feed.
+// The kinds: of an image, then of a feed. They stay the wire's numbers: `frame_at` and `request_of` are stated on any number, of
+// no kind too (18), and C hands them in (`cablegorse_write_record`).
 pub const HEAD: u16 = 1;
 
 pub const ACTIVE: u16 = 2;
@@ -47,12 +48,6 @@ pub struct Kind {
 }
 
 pub const UNITS: u16 = 64;
-
-#[derive(Clone, Copy)]
-pub enum Row {
-    Known(Kind),
-    Unknown,
-}
 
 const COUNT: usize = 11;
 
@@ -125,25 +120,11 @@ const KINDS: [Kind; COUNT] = [
     },
 ];
 
-// Each row by a place that the compiler knows: it then reads the table where that stands, and builds none for a scan.
-pub fn row_of(kind: u16) -> Row
+#[tactic(auto, unfolding(crate::specs::Table::row_of, crate::specs::Table::rows))]
+pub fn row_of(kind: u16) -> Option<Kind>
     ensures { result ≡ row_of kind }
 {
-    let rows = KINDS;
-    match kind {
-        HEAD => Row::Known(rows[0]),
-        ACTIVE => Row::Known(rows[1]),
-        DEFUNCT => Row::Known(rows[2]),
-        INSERT => Row::Known(rows[3]),
-        INSERT_VEHICLE => Row::Known(rows[4]),
-        RENEW => Row::Known(rows[5]),
-        DELETE => Row::Known(rows[6]),
-        BEGIN_EXPIRATION => Row::Known(rows[7]),
-        REPLACE => Row::Known(rows[8]),
-        ACKNOWLEDGE => Row::Known(rows[9]),
-        EXPIRE_DEFUNCT => Row::Known(rows[10]),
-        _ => Row::Unknown,
-    }
+    KINDS.iter().copied().find(|row| row.kind == kind)
 }
 
 // How many units the length n leaves past the base.
@@ -175,8 +156,8 @@ pub fn length_of(kind: u16) -> u16
     ensures { result ≡ length_of kind }
 {
     match row_of(kind) {
-        Row::Known(row) => row.base,
-        Row::Unknown => 0,
+        Some(row) => row.base,
+        None => 0,
     }
 }
 
@@ -185,7 +166,7 @@ pub fn length_with(kind: u16, units: u16) -> u32
     ensures { result ≡ length_with kind units }
 {
     match row_of(kind) {
-        Row::Known(row) => (row.base as u32) + (row.unit as u32) * (units as u32),
-        Row::Unknown => 0,
+        Some(row) => (row.base as u32) + (row.unit as u32) * (units as u32),
+        None => 0,
     }
 }

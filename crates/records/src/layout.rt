@@ -79,19 +79,14 @@ pub const ACTIVE_RECORD: usize = FRAME + ACTIVE;
 
 pub const DEFUNCT_RECORD: usize = FRAME + DEFUNCT;
 
-// Feed bodies: after the sequence, each from its first field on.
+// A time alone.
+pub const TIME: usize = 8;
+
+// Feed bodies: where they begin, after the sequence. Places within them count from there.
 pub const ASKED: usize = 4;
 
-pub const ASKED_LOCK: usize = ASKED + ACTIVE;
-
-// A count of ids.
-pub const COUNT: usize = 2;
-
-// insert vehicle
-pub const CHILDREN: usize = ASKED_LOCK + COUNT;
-
-// renew
-pub const RENEWED_EXPIRY: usize = ASKED + ID;
+// renew: the id is first.
+pub const RENEWED_EXPIRY: usize = ID;
 
 pub const RENEWED_NOW: usize = RENEWED_EXPIRY + 8;
 
@@ -101,20 +96,21 @@ pub const RENEWED_METADATA: usize = HAS_METADATA + 1;
 
 pub const RENEWED: usize = RENEWED_METADATA + 4;
 
-// delete and acknowledge
-pub const ASKED_ID: usize = ASKED + ID;
+// begin expiration: the id is first.
+pub const EXPIRED_NOW: usize = ID;
 
-// begin expiration
-pub const EXPIRATION: usize = ASKED_ID + 8;
+pub const EXPIRATION: usize = EXPIRED_NOW + 8;
 
-// replace
-pub const BREAKER: usize = ASKED_LOCK;
+// replace: the ACTIVE body is first.
+pub const BREAKER: usize = ACTIVE;
 
 pub const BROKEN: usize = BREAKER + 4;
 
-pub const ROOT_COUNT: usize = BROKEN + 8;
+pub const REPLACEMENT: usize = BROKEN + 8;
 
-pub const ROOTS: usize = ROOT_COUNT + COUNT;
+// A count of ids, and where the ids after it begin in the whole body: of insert vehicle, of replace.
+pub const COUNT: usize = 2;
 
-// expire defunct
-pub const EXPIRE_DEFUNCT: usize = ASKED + 8;
+pub const CHILDREN: usize = ASKED + ACTIVE + COUNT;
+
+pub const ROOTS: usize = ASKED + REPLACEMENT + COUNT;

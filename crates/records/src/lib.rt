@@ -3,6 +3,7 @@
 #![tactic(auto)]
 
 pub mod bodies;
+pub mod body;
 pub mod fields;
 pub mod frame;
 pub mod kinds;

@@ -1,15 +1,18 @@
 // The bodies of feed records: what the primary asks for. Ids that follow a count stay in the slice:
 // `list_in` finds them there, `words_of` takes them out.
 // SPDX-License-Identifier: Apache-2.0
-ghost use Rattle.std.specs.Prelude.{◌≡◌, ◌/◌, min, length, drop};
+ghost use Rattle.std.specs.Prelude.{◌≡◌, ◌/◌, min, length, drop, refl};
+ghost use Rattle.std.proofs.Common.{lit≤};
 ghost use Rattle.lists.specs.Places.{in_places};
-ghost use Rattle.records.specs.Feeds.{metadata_right, insert_of, insert_vehicle_of, renew_of, delete_of, begin_expiration_of, replace_of, acknowledge_of, expire_defunct_of, request_of, list_in, words_in};
+ghost use Rattle.records.specs.Feeds.{metadata_right, renewal, expiration, replacement, request_of, list_in, words_in};
 
+use crate::body::{Body, decode_listed, decode_numbered};
 use crate::{bodies, fields, kinds, layout};
 use ids::LockId;
 use state::ActiveLock;
 
-// given: whether there is new metadata.
+// given: whether there is new metadata. Not an Option: "metadata that doesn't apply" is a part of its own, which the writer makes
+// zero (specs/Sending.antt, `normal_renewal`; wrong/metadata_kept.edit).
 #[derive(Clone, Copy)]
 pub struct RenewRequest {
     pub id: LockId,
@@ -44,151 +47,141 @@ pub enum Request {
     ExpireDefunct(u64),
 }
 
-// A request with its sequence number.
-#[derive(Clone, Copy)]
-pub enum Asked {
-    Good(u32, Request),
-    BadField,
-}
-
-fn read_insert(s: &[u8]) -> Asked
-    ensures { result ≡ insert_of s.now }
-{
-    if s.len() != layout::ASKED_LOCK {
-        return Asked::BadField;
-    }
-    let body = &s[layout::ASKED..layout::ASKED_LOCK];
-    if bodies::active_right(body) {
-        let lock = bodies::active_made(body);
-        return Asked::Good(fields::u32_at(s, 0), Request::Insert(lock));
-    }
-    Asked::BadField
-}
-
-// The count is the number of ids that follow it.
-fn read_insert_vehicle(s: &[u8]) -> Asked
-    ensures { result ≡ insert_vehicle_of s.now }
-{
-    if s.len() < layout::CHILDREN {
-        return Asked::BadField;
-    }
-    if s.len() - layout::CHILDREN != (fields::u16_at(s, layout::ASKED_LOCK) as usize) * layout::ID {
-        return Asked::BadField;
-    }
-    let body = &s[layout::ASKED..layout::ASKED_LOCK];
-    if bodies::active_right(body) {
-        let lock = bodies::active_made(body);
-        return Asked::Good(fields::u32_at(s, 0), Request::InsertVehicle(lock));
-    }
-    Asked::BadField
-}
-
+// ---- renew
 fn metadata_right(given: u8, metadata: u32) -> bool
     ensures { result ≡ metadata_right given metadata }
 {
     (given <= 1) & ((given != 0) | (metadata == 0))
 }
 
-fn read_renew(s: &[u8]) -> Asked
-    ensures { result ≡ renew_of s.now }
-{
-    if s.len() != layout::RENEWED {
-        return Asked::BadField;
+impl Body for RenewRequest {
+    ghost codec = { renewal };
+
+    ghost SIZE = { 37 };
+
+    ghost sized = { refl };
+
+    ghost small = { lit≤ tt };
+
+    ghost counts = { λ r. refl };
+
+    const SIZE: usize = layout::RENEWED;
+
+    fn right(s: &[u8]) -> bool {
+        metadata_right(
+            fields::u8_at(s, layout::HAS_METADATA),
+            fields::u32_at(s, layout::RENEWED_METADATA),
+        )
     }
-    let given = fields::u8_at(s, layout::HAS_METADATA);
-    let metadata = fields::u32_at(s, layout::RENEWED_METADATA);
-    if metadata_right(given, metadata) {
-        let renewal = RenewRequest {
-            id: bodies::id_at(s, layout::ASKED),
+
+    fn made(s: &[u8]) -> RenewRequest {
+        RenewRequest {
+            id: bodies::id_at(s, 0),
             expires: fields::u64_at(s, layout::RENEWED_EXPIRY),
             now: fields::u64_at(s, layout::RENEWED_NOW),
-            metadata,
-            given: given == 1,
-        };
-        return Asked::Good(fields::u32_at(s, 0), Request::Renew(renewal));
+            metadata: fields::u32_at(s, layout::RENEWED_METADATA),
+            given: fields::u8_at(s, layout::HAS_METADATA) == 1,
+        }
     }
-    Asked::BadField
+
+    fn put(self, out: &mut [u8]) {
+        fields::put_big64(out, 0, self.id.hi);
+        fields::put_big64(out, layout::HALF, self.id.lo);
+        fields::put_u64(out, layout::RENEWED_EXPIRY, self.expires);
+        fields::put_u64(out, layout::RENEWED_NOW, self.now);
+        fields::put_u8(out, layout::HAS_METADATA, bodies::flag_of(self.given));
+        fields::put_u32(out, layout::RENEWED_METADATA, self.metadata);
+    }
 }
 
-fn read_delete(s: &[u8]) -> Asked
-    ensures { result ≡ delete_of s.now }
-{
-    if s.len() != layout::ASKED_ID {
-        return Asked::BadField;
+// ---- begin expiration
+impl Body for ExpirationRequest {
+    ghost codec = { expiration };
+
+    ghost SIZE = { 24 };
+
+    ghost sized = { refl };
+
+    ghost small = { lit≤ tt };
+
+    ghost counts = { λ e. refl };
+
+    const SIZE: usize = layout::EXPIRATION;
+
+    fn right(s: &[u8]) -> bool {
+        true
     }
-    let id = bodies::id_at(s, layout::ASKED);
-    Asked::Good(fields::u32_at(s, 0), Request::Delete(id))
+
+    fn made(s: &[u8]) -> ExpirationRequest {
+        ExpirationRequest {
+            id: bodies::id_at(s, 0),
+            now: fields::u64_at(s, layout::EXPIRED_NOW),
+        }
+    }
+
+    fn put(self, out: &mut [u8]) {
+        fields::put_big64(out, 0, self.id.hi);
+        fields::put_big64(out, layout::HALF, self.id.lo);
+        fields::put_u64(out, layout::EXPIRED_NOW, self.now);
+    }
 }
 
-fn read_acknowledge(s: &[u8]) -> Asked
-    ensures { result ≡ acknowledge_of s.now }
-{
-    if s.len() != layout::ASKED_ID {
-        return Asked::BadField;
-    }
-    let id = bodies::id_at(s, layout::ASKED);
-    Asked::Good(fields::u32_at(s, 0), Request::Acknowledge(id))
-}
+// ---- replace
+impl Body for ReplaceRequest {
+    ghost codec = { replacement };
 
-fn read_begin_expiration(s: &[u8]) -> Asked
-    ensures { result ≡ begin_expiration_of s.now }
-{
-    if s.len() != layout::EXPIRATION {
-        return Asked::BadField;
-    }
-    let e = ExpirationRequest {
-        id: bodies::id_at(s, layout::ASKED),
-        now: fields::u64_at(s, layout::ASKED_ID),
-    };
-    Asked::Good(fields::u32_at(s, 0), Request::BeginExpiration(e))
-}
+    ghost SIZE = { 99 };
 
-// The count is the number of ids that follow it.
-fn read_replace(s: &[u8]) -> Asked
-    ensures { result ≡ replace_of s.now }
-{
-    if s.len() < layout::ROOTS {
-        return Asked::BadField;
+    ghost sized = { refl };
+
+    ghost small = { lit≤ tt };
+
+    ghost counts = { λ r. refl };
+
+    const SIZE: usize = layout::REPLACEMENT;
+
+    fn right(s: &[u8]) -> bool {
+        ActiveLock::right(s)
     }
-    if s.len() - layout::ROOTS != (fields::u16_at(s, layout::ROOT_COUNT) as usize) * layout::ID {
-        return Asked::BadField;
-    }
-    let body = &s[layout::ASKED..layout::ASKED_LOCK];
-    if bodies::active_right(body) {
-        let r = ReplaceRequest {
-            lock: bodies::active_made(body),
+
+    fn made(s: &[u8]) -> ReplaceRequest {
+        ReplaceRequest {
+            lock: ActiveLock::made(s),
             broken: fields::u64_at(s, layout::BROKEN),
             breaker: fields::u32_at(s, layout::BREAKER),
-        };
-        return Asked::Good(fields::u32_at(s, 0), Request::Replace(r));
+        }
     }
-    Asked::BadField
+
+    fn put(self, out: &mut [u8]) {
+        self.lock.put(out);
+        fields::put_u32(out, layout::BREAKER, self.breaker);
+        fields::put_u64(out, layout::BROKEN, self.broken);
+    }
 }
 
-fn read_expire_defunct(s: &[u8]) -> Asked
-    ensures { result ≡ expire_defunct_of s.now }
-{
-    if s.len() != layout::EXPIRE_DEFUNCT {
-        return Asked::BadField;
-    }
-    let now = fields::u64_at(s, layout::ASKED);
-    Asked::Good(fields::u32_at(s, 0), Request::ExpireDefunct(now))
-}
-
-// What the body of a feed record of this kind asks for.
-pub fn decode_request(kind: u16, s: &[u8]) -> Asked
+// What the body of a feed record of this kind asks for, with its sequence number. None: a length, count or field is wrong (19).
+pub fn decode_request(kind: u16, s: &[u8]) -> Option<(u32, Request)>
     ensures { result ≡ request_of kind s.now }
 {
     match kind {
-        kinds::INSERT => read_insert(s),
-        kinds::INSERT_VEHICLE => read_insert_vehicle(s),
-        kinds::RENEW => read_renew(s),
-        kinds::DELETE => read_delete(s),
-        kinds::BEGIN_EXPIRATION => read_begin_expiration(s),
-        kinds::REPLACE => read_replace(s),
-        kinds::ACKNOWLEDGE => read_acknowledge(s),
-        kinds::EXPIRE_DEFUNCT => read_expire_defunct(s),
-        _ => Asked::BadField,
+        kinds::INSERT => decode_numbered(s).map(|(n, lock)| (n, Request::Insert(lock))),
+        kinds::INSERT_VEHICLE => decode_listed(s).map(|(n, lock)| (
+            n,
+            Request::InsertVehicle(lock),
+        )),
+        kinds::RENEW => decode_numbered(s).map(|(n, asked)| (n, Request::Renew(asked))),
+        kinds::DELETE => decode_numbered(s).map(|(n, id)| (n, Request::Delete(id))),
+        kinds::BEGIN_EXPIRATION => decode_numbered(s).map(|(n, asked)| (
+            n,
+            Request::BeginExpiration(asked),
+        )),
+        kinds::REPLACE => decode_listed(s).map(|(n, asked)| (n, Request::Replace(asked))),
+        kinds::ACKNOWLEDGE => decode_numbered(s).map(|(n, id)| (n, Request::Acknowledge(id))),
+        kinds::EXPIRE_DEFUNCT => decode_numbered(s).map(|(n, now)| (
+            n,
+            Request::ExpireDefunct(now),
+        )),
+        _ => None,
     }
 }
 
@@ -196,11 +189,7 @@ pub fn decode_request(kind: u16, s: &[u8]) -> Asked
 fn past(s: &[u8], start: usize) -> &[u8]
     ensures { result.now ≡ drop start s.now }
 {
-    let n = s.len();
-    if n < start {
-        return &s[n..];
-    }
-    &s[start..]
+    &s[s.len().min(start)..]
 }
 
 // The part of a request's body that holds its ids; no bytes where the request has no list.
@@ -221,22 +210,16 @@ pub const WORDS: usize = 2 * kinds::UNITS as usize;
 pub fn word_count(len: usize) -> usize
     ensures { result ≡ min (len / 8) 128 }
 {
-    if len / layout::HALF < WORDS {
-        return len / layout::HALF;
-    }
-    WORDS
+    (len / layout::HALF).min(WORDS)
 }
 
 // The words of a part that holds ids, then zeros.
 pub fn words_of(s: &[u8]) -> [u64; WORDS]
     ensures { result ≡ in_places 128 0 (words_in s.now) }
 {
-    let n = word_count(s.len());
     let mut words = [0u64; WORDS];
-    let mut i: usize = 0;
-    while i < n {
+    for i in 0..word_count(s.len()) {
         words[i] = fields::big64_at(s, i * layout::HALF);
-        i += 1;
     }
     words
 }

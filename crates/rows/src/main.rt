@@ -4,46 +4,27 @@
 // SPDX-License-Identifier: Apache-2.0
 #![tactic(auto)]
 
-use coverage::{LockCoverage, Spot};
+use coverage::LockCoverage;
 use ids::LockId;
-use operations::answers::{Answer, Expiration, Expired, Inserted, Renewed, Replaced};
+use operations::answers::{Expiration, Expired, Inserted, Refusal, Renewed, Replaced};
 use operations::{delete, insert, insert_vehicle, numbers, renew, replace};
 use state::{ActiveLock, Lock, LockState, ScopeKey};
 use std::io;
 
 // ---- what is printed
-fn text(rt: &impl Print, t: &str) -> io::Result<()> {
-    rt.print(t)
+fn left(rt: &impl Print, name: &str, answer: u64, s: &LockState) -> io::Result<()> {
+    print!(rt;
+        "{name} {answer} {} {} {}",
+        s.revision, s.actives, s.defuncts
+    )
 }
 
-fn number(rt: &impl Print, n: u64) -> io::Result<()> {
-    print!(rt; " {n}")
-}
-
-fn left(rt: &impl Print, answer: u64, s: LockState) -> io::Result<()> {
-    number(rt, answer)?;
-    number(rt, s.revision)?;
-    number(rt, s.actives as u64)?;
-    number(rt, s.defuncts as u64)
-}
-
-fn ids_of(
-    rt: &impl Print,
-    removed: [ActiveLock; LockState::ACTIVE],
-    gone: usize,
-) -> io::Result<()> {
-    text(rt, " removed")?;
-    let mut i: usize = 0;
-    while i < LockState::ACTIVE {
-        let a = removed[i];
-        let l = a.lock;
-        let k = l.id;
-        if i < gone {
-            number(rt, k.lo)?;
-        }
-        i += 1;
+fn ids_of(rt: &impl Print, removed: &[ActiveLock], gone: usize) -> io::Result<()> {
+    rt.print(" removed")?;
+    for a in removed.iter().take(gone) {
+        print!(rt; " {}", a.lock.id.lo)?;
     }
-    Ok(())
+    rt.println("")
 }
 
 // ---- what is inserted: what the sheet leaves open is zero
@@ -95,56 +76,33 @@ fn a() -> LockState {
 }
 
 // ---- a line for each kind of operation
-fn conflict(rt: &impl Print, other: LockId, at: Spot) -> io::Result<()> {
-    number(rt, other.lo)?;
-    if let Spot::Ecu(e) = at {
-        text(rt, " at ECU")?;
-        number(rt, e as u64)?;
-    }
-    Ok(())
-}
-
 fn inserted(rt: &impl Print, name: &str, r: Inserted) -> io::Result<()> {
-    text(rt, name)?;
-    let told = r.told;
-    left(rt, numbers::of_answer(told), r.state)?;
-    match told {
-        Answer::DuplicateId(i) => number(rt, i.lo)?,
-        Answer::CoverageConflict(i, at) => conflict(rt, i, at)?,
+    left(rt, name, numbers::of_answer(r.told), &r.state)?;
+    match r.told {
+        Err(Refusal::DuplicateId(i)) => print!(rt; " {}", i.lo)?,
+        Err(Refusal::CoverageConflict(i, Some(e))) => print!(rt; " {} at ECU {e}", i.lo)?,
+        Err(Refusal::CoverageConflict(i, None)) => print!(rt; " {}", i.lo)?,
         _ => {}
     }
-    text(rt, "\n")
+    rt.println("")
 }
 
 fn renewed(rt: &impl Print, name: &str, r: Renewed) -> io::Result<()> {
-    text(rt, name)?;
-    let told = r.told;
-    left(rt, numbers::of_renewal(told), r.state)?;
-    text(rt, "\n")
+    left(rt, name, numbers::of_renewal(r.told), &r.state)?;
+    rt.println("")
 }
 
 fn expired(rt: &impl Print, name: &str, r: Expired) -> io::Result<()> {
-    text(rt, name)?;
-    let told = r.told;
-    let answer = told.answer;
-    left(rt, numbers::of_expiration(answer), r.state)?;
-    if let Expiration::NotDue(t) = answer {
-        text(rt, " not due")?;
-        number(rt, t)?;
+    left(rt, name, numbers::of_expiration(r.told.answer), &r.state)?;
+    if let Ok(Expiration::NotDue(t)) = r.told.answer {
+        print!(rt; " not due {t}")?;
     }
-    let removed = told.removed;
-    ids_of(rt, removed, told.gone)?;
-    text(rt, "\n")
+    ids_of(rt, &r.told.removed, r.told.gone)
 }
 
 fn replaced(rt: &impl Print, name: &str, r: Replaced) -> io::Result<()> {
-    text(rt, name)?;
-    let told = r.told;
-    let answer = told.answer;
-    left(rt, numbers::of_answer(answer), r.state)?;
-    let removed = told.removed;
-    ids_of(rt, removed, told.gone)?;
-    text(rt, "\n")
+    left(rt, name, numbers::of_answer(r.told.answer), &r.state)?;
+    ids_of(rt, &r.told.removed, r.told.gone)
 }
 
 // ---- the rows
@@ -242,16 +200,14 @@ const ACTIVES: u8 = LockState::ACTIVE as u8;
 // As many locks as there may be, each on a group, with empty sets: no two meet.
 fn full() -> LockState {
     let mut s = LockState::empty();
-    let mut i: u8 = 0;
-    while i < ACTIVES {
+    for i in 0..ACTIVES {
         let g = lock(
-            i as u64 + 1,
+            u64::from(i) + 1,
             ScopeKey::FunctionalGroup(i),
             LockCoverage::empty(),
             1,
         );
         s = put(s, g);
-        i += 1;
     }
     s
 }

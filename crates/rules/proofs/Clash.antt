@@ -1,25 +1,32 @@
--- Rule 8 by place: two locks that clash, and the set that all non-vehicle locks so far are in. Assumes nothing.
+-- Rule 8: two locks that clash, and the set that all non-vehicle locks so far are in. Assumes nothing.
 use mathlib.Core.Path.{◌≡◌, refl, sym, ap, ◌∙◌, subst}
-use mathlib.Core.Bool.{Bool, true, false, cond, not, ◌&&◌, ◌||◌, false≢true}
-use mathlib.Core.List.{List}
+use mathlib.Core.Bool.{Bool, true, false, not, ◌&&◌, false≢true}
+use mathlib.Core.List.{List, []}
+use mathlib.Core.Logic.{◌⊎◌, inl, inr}
 use Prim.Native.Nat.{ℕ, zero, suc, ◌+◌, ◌/◌, ◌%◌, ◌<◌}
-use native.Mathlib.Omega.{arith}
-use native.Mathlib.Decide.{ℕ_discrete}
 use borrow.Author.Tests.{eq-eqb, eqb-true}
 use lib.Dec.{eqb}
 use lib.Bits.{bit_or}
-use lib.ListN.{get_or}
+use lib.ListN.{length, get_or, take}
+use Rattle.std.specs.List.{list_all}
 use Rattle.lists.specs.Tests.{◌and◌, ◌or◌, ◌imp◌, non}
+use Rattle.lists.specs.Lists.{all, Mem}
 use Rattle.lists.specs.Below.{all_below, any_below}
-use Rattle.lists.proofs.Tests.{and_l, and_r, and_i, and_f, or_l, or_r, imp_e, imp_i, →no, against, non_t, non_f, or_code, codes}
+use Rattle.lists.proofs.Tests.{and_l, and_r, and_i, and_f, or_l, or_r, imp_e, imp_i, →no, against, by, non_t, non_f, and_code, non_code}
+use Rattle.lists.proofs.Lists.{→all}
+use Rattle.lists.proofs.Std.{all_as}
 use Rattle.lists.proofs.Below.{all_of, all_at, any_of, any_at}
 use Rattle.bits.specs.Bits.{bit_at}
 use Rattle.bits.proofs.Bits.{or_bit}
 use Rattle.coverage.specs.declared.LockCoverage.{LockCoverage}
 use Rattle.coverage.specs.Coverage.{word_of, in_set, overlap, within}
 use Rattle.coverage.proofs.Laws.{overlap_sym, within_trans}
-use Rattle.rules.specs.Code.{cover_at}
-use Rattle.rules.specs.Code.{union, clash_at, Before}
+use Rattle.state.specs.declared.Lock.{Lock}
+use Rattle.state.specs.declared.ActiveLock.{ActiveLock}
+use Rattle.state.specs.Locks.{is_vehicle, blank_active}
+use Rattle.rules.specs.Rules.{clash}
+use Rattle.rules.specs.Code.{union, Kept}
+use Rattle.rules.proofs.Keys.{mem_more}
 
 -- ---- a set that has another's ECUs
 -- what meets a part meets the whole
@@ -67,106 +74,88 @@ union_l a b = within_of a (union a b) (or_l a.whole b.whole) (λ e t. set_union 
 union_r : (a b : LockCoverage) → within b (union a b) ≡ true
 union_r a b = within_of b (union a b) (or_r a.whole b.whole) (λ e t. set_union a b e ∙ or_r (in_set a e) (in_set b e) t)
 
-pub grown_law : (v : Bool) (a x : LockCoverage) → v ≡ false
-    → ◌≡◌ {A = LockCoverage} (record { w0 = bit_or a.w0 x.w0; w1 = bit_or a.w1 x.w1; w2 = bit_or a.w2 x.w2; w3 = bit_or a.w3 x.w3; whole = a.whole || x.whole }) (cond v a (union a x))
-grown_law v a x e = rw e (λ i. record { w0 = bit_or a.w0 x.w0; w1 = bit_or a.w1 x.w1; w2 = bit_or a.w2 x.w2; w3 = bit_or a.w3 x.w3; whole = or_code a.whole x.whole i })
-
 -- ---- two locks
 and_last : (a b : Bool) → b ≡ false → (a and b) ≡ false
 unfolding ◌and◌
 and_last true b e = e
 and_last false b e = refl
 
-module _ (words : List ℕ) (whole : List Bool) (scopes subjects : List ℕ) where
-  abbrev clash : ℕ → ℕ → Bool
-  clash i j = clash_at words whole scopes subjects i j
+-- what rules a clash out
+module _ (x y : Lock) where
+  pub a_vehicle : is_vehicle x.scope ≡ true → non (clash x y) ≡ true
+  unfolding clash
+  a_vehicle e = non_f _ (and_f _ _ (and_f _ _ (and_f _ _ (non_t _ e))))
 
-  abbrev cover : ℕ → LockCoverage
-  cover i = cover_at words whole i
+  other_vehicle : is_vehicle y.scope ≡ true → non (clash x y) ≡ true
+  unfolding clash
+  other_vehicle e = non_f _ (and_f _ _ (and_f _ _ (and_last _ _ (non_t _ e))))
 
-  -- what the code tests
-  module _ (i j : ℕ) (o : Bool) (x y : LockCoverage) (e : o ≡ overlap x y) (f : x ≡ cover i) (g : y ≡ cover j) where
-    told : (((not (eqb (get_or scopes i 0) 0) && not (eqb (get_or scopes j 0) 0)) && o) && not (eqb (get_or subjects i 0) (get_or subjects j 0))) ≡ clash i j
-    unfolding clash_at
-    told = simp codes (ap (λ (t : Bool). non (eqb (get_or scopes i 0) 0) and non (eqb (get_or scopes j 0) 0) and t and non (eqb (get_or subjects i 0) (get_or subjects j 0)))
-        (e ∙ λ k. overlap (f k) (g k)))
+  no_overlap : overlap x.coverage y.coverage ≡ false → non (clash x y) ≡ true
+  unfolding clash
+  no_overlap e = non_f _ (and_f _ _ (and_last _ _ e))
 
-    pub clash_yes : (((not (eqb (get_or scopes i 0) 0) && not (eqb (get_or scopes j 0) 0)) && o) && not (eqb (get_or subjects i 0) (get_or subjects j 0))) ≡ true → non (clash i j) ≡ false
-    clash_yes t = non_t _ (sym told ∙ t)
+  one_subject : x.subject ≡ y.subject → non (clash x y) ≡ true
+  unfolding clash
+  one_subject e = non_f _ (and_last _ _ (non_t _ (eq-eqb x.subject y.subject e)))
 
-    pub clash_no : (((not (eqb (get_or scopes i 0) 0) && not (eqb (get_or scopes j 0) 0)) && o) && not (eqb (get_or subjects i 0) (get_or subjects j 0))) ≡ false → non (clash i j) ≡ true
-    clash_no t = non_f _ (sym told ∙ t)
+-- ---- a lock and some others
+pub clear_law : (x : Lock) (l : List ActiveLock) → list_all (λ y. not (clash x y.lock)) l ≡ all (λ y. non (clash x y.lock)) l
+clear_law x l = all_as (λ (y : ActiveLock). non (clash x y.lock)) (λ y. not (clash x y.lock)) (λ y. non_code (clash x y.lock)) l
 
-  -- what rules a clash out
-  a_vehicle : (i j : ℕ) → get_or scopes i 0 ≡ 0 → non (clash i j) ≡ true
-  unfolding clash_at
-  a_vehicle i j e = non_f _ (and_f _ _ (and_f _ _ (and_f _ _ (non_t _ (eq-eqb (get_or scopes i 0) 0 e)))))
+pub lone_vehicle : (x : Lock) (l : List ActiveLock) → is_vehicle x.scope ≡ true → all (λ y. non (clash x y.lock)) l ≡ true
+lone_vehicle x l e = →all (λ y. non (clash x y.lock)) l (λ y i. a_vehicle x y.lock e)
 
-  other_vehicle : (i j : ℕ) → get_or scopes j 0 ≡ 0 → non (clash i j) ≡ true
-  unfolding clash_at
-  other_vehicle i j e = non_f _ (and_f _ _ (and_f _ _ (and_last _ _ (non_t _ (eq-eqb (get_or scopes j 0) 0 e)))))
+module _ (x : Lock) (l : List ActiveLock) (same : Bool) (set : LockCoverage) (w : Kept l x.subject same set) where
+  pub all_friends : same ≡ true → all (λ y. non (clash x y.lock)) l ≡ true
+  all_friends t = →all (λ y. non (clash x y.lock)) l (λ y i. by (is_vehicle y.lock.scope) (non (clash x y.lock) ≡ true)
+      (λ u. other_vehicle x y.lock u)
+      (λ u. one_subject x y.lock (sym (w.friends t y i u))))
 
-  no_overlap : (i j : ℕ) → overlap (cover i) (cover j) ≡ false → non (clash i j) ≡ true
-  unfolding clash_at
-  no_overlap i j e = non_f _ (and_f _ _ (and_last _ _ e))
+  pub none_met : overlap set x.coverage ≡ false → all (λ y. non (clash x y.lock)) l ≡ true
+  none_met t = →all (λ y. non (clash x y.lock)) l (λ y i. by (is_vehicle y.lock.scope) (non (clash x y.lock) ≡ true)
+      (λ u. other_vehicle x y.lock u)
+      (λ u. no_overlap x y.lock (→no (overlap x.coverage y.lock.coverage) (λ o. against t (overlap_in set x.coverage y.lock.coverage (w.covered y i u) (overlap_sym y.lock.coverage x.coverage ∙ o))))))
 
-  one_subject : (i j : ℕ) → get_or subjects i 0 ≡ get_or subjects j 0 → non (clash i j) ≡ true
-  unfolding clash_at
-  one_subject i j e = non_f _ (and_last _ _ (non_t _ (eq-eqb (get_or subjects i 0) (get_or subjects j 0) e)))
+-- ---- one more lock
+pub kept_none : (s : ℕ) (set : LockCoverage) → Kept [] s true set
+kept_none s set = record { friends = λ t y i. none i; covered = λ y i. none i }
+  where
+    none : {P : Type 0} {y : ActiveLock} → Mem y [] → P
+    none i = elim i [ ]
 
-  -- ---- a lock and all before it
-  pub lone_vehicle : (i : ℕ) → get_or scopes i 0 ≡ 0 → all_below i (λ j. non (clash i j)) ≡ true
-  lone_vehicle i e = all_of i (λ j. non (clash i j)) (λ j h. a_vehicle i j e)
+-- the lock at place i clashes with none before it
+abbrev pub clear_at : List ActiveLock → ℕ → Bool
+clear_at l i = all (λ y. non (clash (get_or l i blank_active).lock y.lock)) (take i l)
 
-  module _ (i : ℕ) (same : Bool) (all : LockCoverage) (w : Before words whole scopes subjects i same all) where
-    pub all_friends : (same && eqb (get_or subjects i 0) (get_or subjects 0 0)) ≡ true → all_below i (λ j. non (clash i j)) ≡ true
-    all_friends t = all_of i (λ j. non (clash i j)) (λ j h. elim (ℕ_discrete (get_or scopes j 0) 0) [
-      | yes e ↦ other_vehicle i j e
-      | no e ↦ let q = halves same (eqb (get_or subjects i 0) (get_or subjects 0 0)) t in one_subject i j (eqb-true (get_or subjects i 0) (get_or subjects 0 0) q.1 ∙ sym (w.friends q.0 j h e))
-    ])
-      where
-        halves : (a b : Bool) → (a && b) ≡ true → (a ≡ true) × (b ≡ true)
-        halves true b t = (refl, t)
-        halves false b t = absurd (false≢true t)
+module _ (l : List ActiveLock) (i : ℕ) (h : i < length l) (s : ℕ) (same : Bool) (set : LockCoverage) (w : Kept (take i l) s same set) where
+  abbrev x : ActiveLock
+  x = get_or l i blank_active
 
-    pub none_met : (o : Bool) (x : LockCoverage) → o ≡ overlap all x → x ≡ cover i → o ≡ false → all_below i (λ j. non (clash i j)) ≡ true
-    none_met o x e f t = all_of i (λ j. non (clash i j)) (λ j h. elim (ℕ_discrete (get_or scopes j 0) 0) [
-      | yes q ↦ other_vehicle i j q
-      | no q ↦ no_overlap i j (→no (overlap (cover i) (cover j)) (λ u.
-          against (ap (overlap all) (sym f) ∙ sym e ∙ t) (overlap_in all (cover i) (cover j) (w.covered j h q) (overlap_sym (cover j) (cover i) ∙ u))))
-    ])
+  one_of : {y : ActiveLock} → Mem y (take (i + 1) l) → Mem y (take i l) ⊎ (y ≡ x)
+  one_of m = mem_more l i blank_active h m
 
-    -- one more lock
-    pub before_more : (v : Bool) (x : LockCoverage) (r : LockCoverage) → v ≡ eqb (get_or scopes i 0) 0 → x ≡ cover i → r ≡ cond v all (union all x)
-        → Before words whole scopes subjects (i + 1) (same && (v || eqb (get_or subjects i 0) (get_or subjects 0 0))) r
-    before_more v x r e f g = subst (λ (u : LockCoverage). Before words whole scopes subjects (i + 1) (same && (v || eqb (get_or subjects i 0) (get_or subjects 0 0))) u) (sym g) (go v e)
-      where
-        older : (j : ℕ) → j < i + 1 → (j ≡ i → ⊥) → j < i
-        older j h q = omega arith
+  -- the vehicle lock doesn't join
+  pub kept_vehicle : is_vehicle x.lock.scope ≡ true → Kept (take (i + 1) l) s same set
+  kept_vehicle v = record {
+    friends = λ t y m u. elim (one_of m) [ inl a ↦ w.friends t y a u | inr a ↦ absurd (against u (ap (λ (z : ActiveLock). is_vehicle z.lock.scope) a ∙ v)) ];
+    covered = λ y m u. elim (one_of m) [ inl a ↦ w.covered y a u | inr a ↦ absurd (against u (ap (λ (z : ActiveLock). is_vehicle z.lock.scope) a ∙ v)) ];
+  }
 
-        keeps : (a b : Bool) → (a && b) ≡ true → a ≡ true
-        keeps true b t = refl
-        keeps false b t = absurd (false≢true t)
+  pub kept_subject : Kept (take i l) x.lock.subject (same && eqb x.lock.subject s) set
+  kept_subject = record { friends = λ t y m u. let q = halves t in w.friends q.0 y m u ∙ sym (eqb-true x.lock.subject s q.1); covered = w.covered }
+    where
+      halves : (same && eqb x.lock.subject s) ≡ true → (same ≡ true) × (eqb x.lock.subject s ≡ true)
+      halves t = let r = sym (and_code same (eqb x.lock.subject s)) ∙ t in (and_l _ _ r, and_r _ _ r)
 
-        last : (a b : Bool) → (a && b) ≡ true → b ≡ true
-        last true b t = t
-        last false b t = absurd (false≢true t)
+  joined : Kept (take (i + 1) l) s (same && eqb x.lock.subject s) (union set x.lock.coverage)
+  joined = record {
+    friends = λ t y m u. let r = sym (and_code same (eqb x.lock.subject s)) ∙ t in
+        elim (one_of m) [ inl a ↦ w.friends (and_l _ _ r) y a u | inr a ↦ ap (λ (z : ActiveLock). z.lock.subject) a ∙ eqb-true x.lock.subject s (and_r _ _ r) ];
+    covered = λ y m u. elim (one_of m) [
+      | inl a ↦ within_trans y.lock.coverage set (union set x.lock.coverage) (w.covered y a u) (union_l set x.lock.coverage)
+      | inr a ↦ subst (λ (z : ActiveLock). within z.lock.coverage (union set x.lock.coverage) ≡ true) (sym a) (union_r set x.lock.coverage)
+    ];
+  }
 
-        go : (v : Bool) → v ≡ eqb (get_or scopes i 0) 0 → Before words whole scopes subjects (i + 1) (same && (v || eqb (get_or subjects i 0) (get_or subjects 0 0))) (cond v all (union all x))
-        go true q =
-            let z : get_or scopes i 0 ≡ 0 = eqb-true (get_or scopes i 0) 0 (sym q) in
-            record {
-              friends = λ t j h n. elim (ℕ_discrete j i) [ yes p ↦ absurd (n (ap (λ (m : ℕ). get_or scopes m 0) p ∙ z)) | no p ↦ w.friends (keeps same true t) j (older j h p) n ];
-              covered = λ j h n. elim (ℕ_discrete j i) [ yes p ↦ absurd (n (ap (λ (m : ℕ). get_or scopes m 0) p ∙ z)) | no p ↦ w.covered j (older j h p) n ];
-            }
-        go false q =
-            record {
-              friends = λ t j h n. elim (ℕ_discrete j i) [
-                | yes p ↦ ap (λ (m : ℕ). get_or subjects m 0) p ∙ eqb-true (get_or subjects i 0) (get_or subjects 0 0) (last same (eqb (get_or subjects i 0) (get_or subjects 0 0)) t)
-                | no p ↦ w.friends (keeps same (eqb (get_or subjects i 0) (get_or subjects 0 0)) t) j (older j h p) n
-              ];
-              covered = λ j h n. elim (ℕ_discrete j i) [
-                | yes p ↦ subst (λ (u : LockCoverage). within u (union all x) ≡ true) (f ∙ ap cover (sym p)) (union_r all x)
-                | no p ↦ within_trans (cover j) all (union all x) (w.covered j (older j h p) n) (union_l all x)
-              ];
-            }
+  pub kept_more : (r : LockCoverage) → r ≡ union set x.lock.coverage → Kept (take (i + 1) l) s (same && eqb x.lock.subject s) r
+  kept_more r e = subst (λ (u : LockCoverage). Kept (take (i + 1) l) s (same && eqb x.lock.subject s) u) (sym e) joined

@@ -5,7 +5,8 @@ use mathlib.Core.Path.{◌≡◌, refl, sym, ap, ◌∙◌, subst}
 use mathlib.Core.Bool.{Bool, true}
 use mathlib.Core.List.Memᴰ
 use mathlib.Core.List.{List, [], ◌∷◌, map}
-use mathlib.Core.Option.{Option, none, some, none-ne-some, some-injective}
+use Rattle.std.specs.Prelude.{Option, None, Some}
+use Rattle.lists.proofs.Options.{None_ne_Some, Some_injective}
 use mathlib.Core.Logic.{inl, inr}
 use Prim.Native.Nat.{ℕ, zero, suc, ◌≤◌, ◌<◌}
 use native.Mathlib.Omega.{arith}
@@ -23,16 +24,16 @@ use Rattle.state.specs.declared.DefunctLock.{DefunctLock}
 use Rattle.rules.specs.Rules.{find_d, has_d, meets_none, rule9}
 
 pub data Ends (t : List DefunctLock) : ℕ → Type 0 where
-  done : {k : ℕ} → find_d t k ≡ none → Ends t k
-  step : {k : ℕ} {d : DefunctLock} → find_d t k ≡ some d → Ends t (key d.target) → Ends t k
+  done : {k : ℕ} → find_d t k ≡ None → Ends t k
+  step : {k : ℕ} {d : DefunctLock} → find_d t k ≡ Some d → Ends t (key d.target) → Ends t k
 
 -- from id k the walk has left the table after at most n entries
 unfoldable pub leaves : ℕ → List DefunctLock → ℕ → Bool
 leaves zero t k = non (has_d t k)
-leaves (suc n) t k = elim (find_d t k) [ none ↦ true | some d ↦ leaves n t (key d.target) ]
+leaves (suc n) t k = elim (find_d t k) [ None ↦ true | Some d ↦ leaves n t (key d.target) ]
 
 -- ---- the test implies it
-has_d_none : (t : List DefunctLock) (k : ℕ) → No ((has_d t k)) → find_d t k ≡ none
+has_d_none : (t : List DefunctLock) (k : ℕ) → No ((has_d t k)) → find_d t k ≡ None
 has_d_none t k h = find_miss (λ d. eqb (dkey d) k) t (λ d m e. against h (→any (λ d. eqb (dkey d) k) m e))
 
 pub meets→ends : (n : ℕ) (t : List DefunctLock) (seen : List ℕ) (k : ℕ) → Yes (meets_none n t seen k) → Ends t k
@@ -40,9 +41,9 @@ unfolding meets_none
 meets→ends zero t seen k h = done (has_d_none t k (non_yes _ h))
 meets→ends (suc n) t seen k h = go (find_d t k) refl h (λ j u. meets→ends n t (k ∷ seen) j u)
   where
-    go : (o : Option DefunctLock) → find_d t k ≡ o → Yes (elim o [ none ↦ true | some d ↦ non (any (eqb k) seen) and meets_none n t (k ∷ seen) (key d.target) ]) → ((j : ℕ) → Yes (meets_none n t (k ∷ seen) j) → Ends t j) → Ends t k
-    go none e u r = done e
-    go (some d) e u r = step e (r (key d.target) (and_r (non (any (eqb k) seen)) (meets_none n t (k ∷ seen) (key d.target)) u))
+    go : (o : Option DefunctLock) → find_d t k ≡ o → Yes (elim o [ None ↦ true | Some d ↦ non (any (eqb k) seen) and meets_none n t (k ∷ seen) (key d.target) ]) → ((j : ℕ) → Yes (meets_none n t (k ∷ seen) j) → Ends t j) → Ends t k
+    go None e u r = done e
+    go (Some d) e u r = step e (r (key d.target) (and_r (non (any (eqb k) seen)) (meets_none n t (k ∷ seen) (key d.target)) u))
 
 -- ---- and back to the test: the entries met are no more than the table has
 unfoldable pub chain : {t : List DefunctLock} {k : ℕ} → Ends t k → List ℕ
@@ -55,16 +56,16 @@ count r = length (chain r)
 same_count : {t : List DefunctLock} {j k : ℕ} (r : Ends t j) (s : Ends t k) → j ≡ k → count r ≡ count s
 unfolding count chain
 same_count (done e) (done f) q = refl
-same_count {t} (done e) (step {d = d} f s) q = absurd (none-ne-some d (sym e ∙ ap (find_d t) q ∙ f))
-same_count {t} (step {d = d} e r) (done f) q = absurd (none-ne-some d (sym f ∙ ap (find_d t) (sym q) ∙ e))
-same_count {t} (step {d = d} e r) (step {d = d'} f s) q = ap suc (same_count r s (ap (λ (x : DefunctLock). key x.target) (some-injective d d' (sym e ∙ ap (find_d t) q ∙ f))))
+same_count {t} (done e) (step {d = d} f s) q = absurd (None_ne_Some d (sym e ∙ ap (find_d t) q ∙ f))
+same_count {t} (step {d = d} e r) (done f) q = absurd (None_ne_Some d (sym f ∙ ap (find_d t) (sym q) ∙ e))
+same_count {t} (step {d = d} e r) (step {d = d'} f s) q = ap suc (same_count r s (ap (λ (x : DefunctLock). key x.target) (Some_injective d d' (sym e ∙ ap (find_d t) q ∙ f))))
 
 -- a step leaves one entry less
-pub shorter : {t : List DefunctLock} {k : ℕ} {d : DefunctLock} (j : ℕ) → find_d t k ≡ some d → key d.target ≡ j → (r : Ends t k) → (s : Ends t j) × (count s < count r)
+pub shorter : {t : List DefunctLock} {k : ℕ} {d : DefunctLock} (j : ℕ) → find_d t k ≡ Some d → key d.target ≡ j → (r : Ends t k) → (s : Ends t j) × (count s < count r)
 unfolding count chain
-shorter {d = d} j e q (done f) = absurd (none-ne-some d (sym f ∙ e))
+shorter {d = d} j e q (done f) = absurd (None_ne_Some d (sym f ∙ e))
 shorter {t} {d = d} j e q (step {d = c} f r) =
-    let p : key c.target ≡ j = ap (λ (x : DefunctLock). key x.target) (some-injective c d (sym f ∙ e)) ∙ q in
+    let p : key c.target ≡ j = ap (λ (x : DefunctLock). key x.target) (Some_injective c d (sym f ∙ e)) ∙ q in
     let s = subst (Ends t) p r in
     (s, omega (arith, same_count s r (sym p)))
 
@@ -86,7 +87,7 @@ unfolding count chain
 chain_fresh (done e) = tt
 chain_fresh (step e r) = (λ m. let w = met r m in omega (arith, w.1, same_count w.0 (step e r) refl), chain_fresh r)
 
-not_had : (t : List DefunctLock) (k : ℕ) → find_d t k ≡ none → No (has_d t k)
+not_had : (t : List DefunctLock) (k : ℕ) → find_d t k ≡ None → No (has_d t k)
 not_had t k e = →no (has_d t k) (λ u. let w = any→ (λ d. eqb (dkey d) k) t u in find_none→ (λ d. eqb (dkey d) k) t e w.1 w.2)
 
 ends→leaves : (n : ℕ) {t : List DefunctLock} {k : ℕ} (r : Ends t k) → count r ≤ n → Yes (leaves n t k)

@@ -1,21 +1,22 @@
--- Rules 2 to 8 by the columns of the active locks, and which of them is the lowest broken. Assumes nothing.
+-- Rules 2 to 8 by the code's tests of the active locks, and which of them is the lowest broken. Assumes nothing.
 use mathlib.Core.Path.{◌≡◌, refl, sym, ap, ◌∙◌}
-use mathlib.Core.Bool.{Bool, true, false, cond, false≢true}
+use mathlib.Core.Bool.{Bool, true, false, cond, not, ◌&&◌, ◌||◌, false≢true}
 use mathlib.Core.List.{List, [], ◌∷◌}
-use mathlib.Core.Option.{Option, none, some}
-use mathlib.Core.Logic.{inl, inr}
-use Prim.Native.Nat.{ℕ, suc, ◌<◌}
+use Rattle.std.specs.Prelude.{Option, None, Some}
+use Rattle.std.specs.List.{list_all, list_any}
+use Prim.Native.Nat.{ℕ, suc}
 use native.Mathlib.Omega.{arith}
-use lib.Dec.{eqb, ltb}
-use lib.ListN.{length, get_or}
-use borrow.Author.Tests.{eq-eqb, ne_eqb, eqb-true, lt-ltb, ltb-true}
+use lib.Dec.{eqb}
+use lib.ListN.{length, get_or, take}
+use borrow.Author.Tests.{eq-eqb, ne_eqb, eqb-true, not-true}
 use Rattle.lists.specs.Tests.{◌and◌, ◌or◌, ◌imp◌, non}
 use Rattle.lists.specs.Lists.{all, any, find, Mem, ascending}
-use Rattle.lists.specs.Below.{all_below, any_below}
-use Rattle.lists.proofs.Tests.{same_test, against, →no, by, non_yes, yes_non, and_l, and_r, and_i, imp_e, imp_i, or_t, or_f}
-use Rattle.lists.proofs.Lists.{all→, any→, →any, find→, find_key}
-use Rattle.lists.proofs.Below.{all_of, all_at, all_same, any_of, any_at, any_same, triangle}
-use Rattle.lists.proofs.Places.{mem_at, at_mem, all_below_lem, ascending_at}
+use Rattle.lists.specs.Below.{all_below}
+use Rattle.lists.proofs.Tests.{same_test, against, →no, by, yes_non, and_l, and_r, and_i, imp_e, imp_i, or_t, or_f, codes}
+use Rattle.lists.proofs.Lists.{all→, →all, find→, find_none→, find_key}
+use Rattle.lists.proofs.Std.{any_std, all_std, all_as}
+use Rattle.lists.proofs.Below.{all_same, triangle}
+use Rattle.lists.proofs.Places.{all_first, all_below_lem, ascending_at}
 use Rattle.ids.specs.Order.{key, same_id}
 use Rattle.coverage.specs.Coverage.{overlap, within}
 use Rattle.coverage.proofs.Laws.{overlap_sym}
@@ -25,9 +26,7 @@ use Rattle.state.specs.Locks.{akey, is_vehicle, scope_code, same_scope, blank_ac
 use Rattle.state.specs.Model.{Model}
 use Rattle.state.proofs.Laws.{vehicle_code}
 use Rattle.rules.specs.Rules.{parent_of, of_parent, is_some, clash, rule2, rule3, rule4, rule5, rule6, rule7, rule8}
-use Rattle.rules.specs.Code.{id_at, key_at, cover_at, Sought, has, fit_at, lowest_parent}
-use Rattle.rules.specs.Code.{Columns, clash_at, lowest_from, active_rules}
-use Rattle.rules.proofs.Lowest.{low_nobody}
+use Rattle.rules.specs.Code.{child_under, child_active, child_owned, child_inside, child_fits, lowest_past_4, lowest_parent, lowest_from, active_rules}
 
 -- ---- tests
 imp_same : (c a b : Bool) → (c ≡ true → a ≡ b) → (c imp a) ≡ (c imp b)
@@ -45,34 +44,50 @@ unfolding ◌imp◌ non
 imp_false true = refl
 imp_false false = refl
 
--- what is asked of a child, in its parts
-module _ (c a b o w k : Bool) where
-  child_parts : (c imp (a and b and o and w and non k)) ≡ true → ((c imp (a and b)) ≡ true) × ((c imp o) ≡ true) × ((c imp w) ≡ true) × ((k imp non c) ≡ true)
-  child_parts t = (
-    imp_i c (a and b) (λ y. and_l _ _ (and_l _ _ (and_l _ _ (imp_e c _ t y)))),
-    imp_i c o (λ y. and_r _ _ (and_l _ _ (and_l _ _ (imp_e c _ t y)))),
-    imp_i c w (λ y. and_r _ _ (and_l _ _ (imp_e c _ t y))),
-    imp_i k (non c) (λ x. yes_non c (→no c (λ y. against (non_yes k (and_r _ _ (imp_e c _ t y))) x))),
-  )
-
-  child_whole : (c imp (a and b)) ≡ true → (c imp o) ≡ true → (c imp w) ≡ true → (k imp non c) ≡ true → (c imp (a and b and o and w and non k)) ≡ true
-  child_whole u v x z = imp_i c _ (λ y. and_i _ _ (and_i _ _ (and_i _ _ (imp_e c _ u y) (imp_e c _ v y)) (imp_e c _ x y)) (yes_non k (→no k (λ q. against (non_yes c (imp_e k _ z q)) y))))
+-- what the code tests of a child
+imp_test : (c a : Bool) → (not c || a) ≡ (c imp a)
+unfolding ◌imp◌
+imp_test true a = refl
+imp_test false a = refl
 
 eqb_sym : (n m : ℕ) → eqb n m ≡ eqb m n
 eqb_sym n m = same_test (eqb n m) (eqb m n) (λ t. eq-eqb m n (sym (eqb-true n m t))) (λ t. eq-eqb n m (sym (eqb-true m n t)))
 
-found_any : {A : Type 0} (p : A → Bool) (l : List A) → is_some (find p l) ≡ any p l
-found_any p [] = refl
-found_any p (x ∷ xs) = go (p x) (found_any p xs)
-  where
-    go : (b : Bool) → is_some (find p xs) ≡ any p xs → is_some (cond b (some x) (find p xs)) ≡ (b or any p xs)
-    go true r = sym (or_t true (any p xs) refl)
-    go false r = r ∙ sym (or_f false (any p xs) refl)
+module _ {A : Type 0} where
+  found_any : (p : A → Bool) (l : List A) → is_some (find p l) ≡ any p l
+  found_any p [] = refl
+  found_any p (x ∷ xs) = go (p x) (found_any p xs)
+    where
+      go : (b : Bool) → is_some (find p xs) ≡ any p xs → is_some (cond b (Some x) (find p xs)) ≡ (b or any p xs)
+      go true r = sym (or_t true (any p xs) refl)
+      go false r = r ∙ sym (or_f false (any p xs) refl)
 
-pub any_below_lem : {A : Type 0} (p : A → Bool) (l : List A) (d : A) → any p l ≡ any_below (length l) (λ i. p (get_or l i d))
-any_below_lem p l d = same_test (any p l) (any_below (length l) (λ i. p (get_or l i d)))
-    (λ t. let w = any→ p l t in let u = at_mem d w.1 in any_of (length l) (λ i. p (get_or l i d)) u.0 u.1 (ap p u.2 ∙ w.2))
-    (λ t. let w = any_at (length l) (λ i. p (get_or l i d)) t in →any p (mem_at l w.0 d w.1) w.2)
+  -- tests that agree on a list's members
+  all_alike : (p q : A → Bool) (l : List A) → ((a : A) → Mem a l → p a ≡ q a) → all p l ≡ all q l
+  all_alike p q l f = same_test (all p l) (all q l) (λ t. →all q l (λ a i. sym (f a i) ∙ all→ p t i)) (λ t. →all p l (λ a i. f a i ∙ all→ q t i))
+
+-- what is asked of a child, all at once and in its parts
+fit_parts : (c p s w k : Bool) → (not c || (((p && s) && w) && not k)) ≡ ((((not c || p) and (not c || s)) and (not c || w)) and (k imp non c))
+unfolding ◌and◌ ◌or◌ ◌imp◌ non
+fit_parts false p s w true = refl
+fit_parts false p s w false = refl
+fit_parts true p s w k = simp codes (imp_non (p and s and w) k)
+  where
+    imp_non : (b k : Bool) → (b and non k) ≡ (b and (k imp false))
+    imp_non b true = refl
+    imp_non b false = refl
+
+and_both : (a b c d : Bool) → ((a and b) and (c and d)) ≡ ((a and c) and (b and d))
+unfolding ◌and◌
+and_both false b c d = refl
+and_both true false false d = refl
+and_both true false true d = refl
+and_both true true c d = refl
+
+all_and : {A : Type 0} (p q : A → Bool) (l : List A) → all (λ a. p a and q a) l ≡ (all p l and all q l)
+unfolding ◌and◌
+all_and p q [] = refl
+all_and p q (x ∷ xs) = ap (λ (b : Bool). (p x and q x) and b) (all_and p q xs) ∙ and_both (p x) (q x) (all p xs) (all q xs)
 
 -- ---- the lowest broken rule, one rule on
 next_low : (j : ℕ) (b : Bool) (bs : List Bool) → b ≡ true → lowest_from j (b ∷ bs) ≡ lowest_from (suc j) bs
@@ -120,262 +135,227 @@ clash_self x = rw (eq-eqb x.subject x.subject refl) (never (non (is_vehicle x.sc
     never true = refl
     never false = refl
 
-module _ (m : Model) (n : ℕ) (ids parents words : List ℕ) (whole child : List Bool) (scopes subjects : List ℕ)
-    (k : Columns m.active n ids parents words whole child scopes subjects) where
+module _ (m : Model) where
   abbrev at : ℕ → ActiveLock
   at i = get_or m.active i blank_active
 
-  every : (p : ActiveLock → Bool) → all p m.active ≡ all_below n (λ i. p (at i))
-  every p = all_below_lem p m.active blank_active ∙ ap (λ (j : ℕ). all_below j (λ i. p (at i))) k.long
-
-  inside : (i : ℕ) → i < n → Mem (at i) m.active
-  inside i h = mem_at m.active i blank_active (omega (arith, k.long))
-
-  vehicle_at : (i : ℕ) → i < n → is_vehicle (at i).lock.scope ≡ eqb (get_or scopes i 0) 0
-  vehicle_at i h = sym (vehicle_code (at i).lock.scope) ∙ ap (λ (c : ℕ). eqb c 0) (sym (k.at_scope i h))
-
-  parent_key : (i : ℕ) → i < n → key (at i).parent ≡ key_at parents i
-  parent_key i h = ap key (sym (k.at_parent i h))
-
-  lock_key : (i : ℕ) → i < n → akey (at i) ≡ key_at ids i
-  lock_key i h = ap key (sym (k.at_id i h))
-
-  -- ---- rules 2, 8, 7 and 3
+  -- ---- rules of every two locks
   every_two : (r : ActiveLock → ActiveLock → Bool) → ((x y : ActiveLock) → r x y ≡ r y x) → ((x : ActiveLock) → r x x ≡ true)
-      → all (λ x. all (r x) m.active) m.active ≡ all_below n (λ i. all_below i (λ j. r (at i) (at j)))
+      → all (λ x. all (r x) m.active) m.active ≡ all_below (length m.active) (λ i. all_below i (λ j. r (at i) (at j)))
   every_two r s d =
-      every (λ x. all (r x) m.active)
-      ∙ all_same n (λ i. all (r (at i)) m.active) (λ i. all_below n (λ j. r (at i) (at j))) (λ i h. every (r (at i)))
-      ∙ triangle n (λ i j. r (at i) (at j)) (λ i h. d (at i)) (λ i j h g. s (at i) (at j))
+      all_below_lem (λ x. all (r x) m.active) m.active blank_active
+      ∙ all_same (length m.active) (λ i. all (r (at i)) m.active) (λ i. all_below (length m.active) (λ j. r (at i) (at j))) (λ i h. all_below_lem (r (at i)) m.active blank_active)
+      ∙ triangle (length m.active) (λ i j. r (at i) (at j)) (λ i h. d (at i)) (λ i j h g. s (at i) (at j))
 
-  two_law : ascending akey m.active ≡ true → rule2 m ≡ all_below n (λ i. all_below i (λ j. non (eqb (get_or scopes i 0) (get_or scopes j 0))))
+  abbrev code : ℕ → ℕ
+  code i = scope_code (at i).lock.scope
+
+  pub two_law : ascending akey m.active ≡ true → rule2 m ≡ all_below (length m.active) (λ i. all_below i (λ j. non (eqb (code i) (code j))))
   unfolding rule2 same_scope
   two_law s =
       every_two (λ x y. same_scope x.lock.scope y.lock.scope imp eqb (akey x) (akey y))
       (λ x y. rw (eqb_sym (scope_code x.lock.scope) (scope_code y.lock.scope), eqb_sym (akey x) (akey y)))
       (λ x. rw (eq-eqb (akey x) (akey x) refl) (imp_true (same_scope x.lock.scope x.lock.scope)))
-      ∙ all_same n (λ i. all_below i (λ j. same_scope (at i).lock.scope (at j).lock.scope imp eqb (akey (at i)) (akey (at j)))) (λ i. all_below i (λ j. non (eqb (get_or scopes i 0) (get_or scopes j 0))))
-      (λ i h. all_same i (λ j. same_scope (at i).lock.scope (at j).lock.scope imp eqb (akey (at i)) (akey (at j))) (λ j. non (eqb (get_or scopes i 0) (get_or scopes j 0)))
-      (λ j g. rw (ne_eqb (akey (at i)) (akey (at j)) (λ e. omega (arith, apart i j h g, e)), ← (k.at_scope i h), ← (k.at_scope j (omega arith))) (imp_false (eqb (get_or scopes i 0) (get_or scopes j 0)))))
-    where
-      apart : (i j : ℕ) → i < n → j < i → akey (at j) < akey (at i)
-      apart i j h g = ascending_at akey 0 m.active blank_active s j i g (omega (arith, k.long))
+      ∙ all_same (length m.active) (λ i. all_below i (λ j. same_scope (at i).lock.scope (at j).lock.scope imp eqb (akey (at i)) (akey (at j)))) (λ i. all_below i (λ j. non (eqb (code i) (code j))))
+      (λ i h. all_same i (λ j. same_scope (at i).lock.scope (at j).lock.scope imp eqb (akey (at i)) (akey (at j))) (λ j. non (eqb (code i) (code j)))
+      (λ j g. rw (ne_eqb (akey (at i)) (akey (at j)) (λ e. omega (arith, ascending_at akey 0 m.active blank_active s j i g h, e))) (imp_false (eqb (code i) (code j)))))
 
-  eight_law : rule8 m ≡ all_below n (λ i. all_below i (λ j. non (clash_at words whole scopes subjects i j)))
-  unfolding rule8 clash clash_at
+  pub eight_law : rule8 m ≡ all_below (length m.active) (λ i. all (λ y. non (clash (at i).lock y.lock)) (take i m.active))
+  unfolding rule8
   eight_law =
       every_two (λ x y. non (clash x.lock y.lock)) (λ x y. ap non (clash_sym x.lock y.lock)) (λ x. clash_self x.lock)
-      ∙ all_same n (λ i. all_below i (λ j. non (clash (at i).lock (at j).lock))) (λ i. all_below i (λ j. non (clash_at words whole scopes subjects i j)))
-      (λ i h. all_same i (λ j. non (clash (at i).lock (at j).lock)) (λ j. non (clash_at words whole scopes subjects i j)) (λ j g.
-      let l : j < n = omega arith in
-      rw (vehicle_at i h, vehicle_at j l, ← (k.at_cover i h), ← (k.at_cover j l), ← (k.at_subject i h), ← (k.at_subject j l))))
+      ∙ all_same (length m.active) (λ i. all_below i (λ j. non (clash (at i).lock (at j).lock))) (λ i. all (λ y. non (clash (at i).lock y.lock)) (take i m.active))
+      (λ i h. sym (all_first (λ (y : ActiveLock). non (clash (at i).lock y.lock)) m.active i blank_active (omega arith)))
 
-  seven_law : rule7 m ≡ all_below n (λ i. eqb (get_or scopes i 0) 0 imp non (get_or child i false))
-  unfolding rule7
-  seven_law =
-      every (λ a. is_vehicle a.lock.scope imp non a.child)
-      ∙ all_same n (λ i. is_vehicle (at i).lock.scope imp non (at i).child) (λ i. eqb (get_or scopes i 0) 0 imp non (get_or child i false)) (λ i h. rw (vehicle_at i h, ← (k.at_child i h)))
+  -- ---- rules 3 to 7 as the code tests them
+  pub three_law : rule3 m ≡ list_all (child_active m.active) m.active
+  unfolding rule3 same_id
+  three_law = sym (all_as (λ a. a.child imp is_some (parent_of m a)) (child_active m.active) (λ a.
+      imp_test a.child (list_any (λ p. same_id p.lock.id a.parent) m.active)
+      ∙ ap (λ (b : Bool). a.child imp b) (any_std (λ (p : ActiveLock). eqb (akey p) (key a.parent)) m.active ∙ sym (found_any (λ (p : ActiveLock). eqb (akey p) (key a.parent)) m.active))) m.active)
 
-  three_law : rule3 m ≡ all_below n (λ i. get_or child i false imp has (key_at ids) n (key_at parents i))
-  unfolding rule3
-  three_law =
-      every (λ a. a.child imp is_some (parent_of m a))
-      ∙ all_same n (λ i. (at i).child imp is_some (parent_of m (at i))) (λ i. get_or child i false imp has (key_at ids) n (key_at parents i))
-      (λ i h. rw (← (k.at_child i h)) (ap (λ (b : Bool). get_or child i false imp b) (sought i h)))
-    where
-      sought : (i : ℕ) → i < n → is_some (parent_of m (at i)) ≡ has (key_at ids) n (key_at parents i)
-      sought i h =
-          found_any (λ a. eqb (akey a) (key (at i).parent)) m.active
-          ∙ any_below_lem (λ a. eqb (akey a) (key (at i).parent)) m.active blank_active
-          ∙ ap (λ (j : ℕ). any_below j (λ a. eqb (akey (at a)) (key (at i).parent))) k.long
-          ∙ any_same n (λ a. eqb (akey (at a)) (key (at i).parent)) (λ a. eqb (key_at ids a) (key_at parents i)) (λ a g. rw (lock_key a g, parent_key i h))
+  abbrev the_vehicle : Option ActiveLock
+  the_vehicle = find (λ a. is_vehicle a.lock.scope) m.active
 
-  abbrev twos : Bool
-  twos = all_below n (λ i. all_below i (λ j. non (eqb (get_or scopes i 0) (get_or scopes j 0))))
-
-  pub low_two : ascending akey m.active ≡ true → twos ≡ false → 2 ≡ lowest_from 2 (active_rules m)
-  low_two s t = sym (stop_low 2 (rule2 m) (from3 m) (two_law s ∙ t))
-
-  -- ---- rules 3 to 6 by the one vehicle lock: at v, if v is below n; p is then v
-  module _ (s : ascending akey m.active ≡ true) (v p : ℕ) (w : Sought (λ i. get_or scopes i 0) n 0 v) (e : v < n → p ≡ v) where
-    abbrev below : ℕ → Bool
-    below i = get_or child i false imp (ltb v n and same_id (id_at parents i) (id_at ids p))
-
-    the_vehicle : v < n → is_vehicle (at v).lock.scope ≡ true
-    the_vehicle h = go w
-      where
-        go : Sought (λ i. get_or scopes i 0) n 0 v → is_vehicle (at v).lock.scope ≡ true
-        go (inl u) = vehicle_at v h ∙ eq-eqb (get_or scopes v 0) 0 u.1
-        go (inr u) = absurd (omega (arith, u.0))
-
-    module _ (u : all_below n below ≡ true) where
-      the_parent : (j : ℕ) → j < n → (at j).child ≡ true → (v < n) × (parent_of m (at j) ≡ some (at v))
+  module _ (s : ascending akey m.active ≡ true) where
+    -- where every child's parent is the vehicle lock, a test of the parent is one of it
+    module _ (v : ActiveLock) (e : the_vehicle ≡ Some v) (u : list_all (child_under (Some v)) m.active ≡ true) where
+      the_parent : (a : ActiveLock) → Mem a m.active → a.child ≡ true → parent_of m a ≡ Some v
       unfolding same_id
-      the_parent j h c =
-          let t = imp_e (get_or child j false) (ltb v n and same_id (id_at parents j) (id_at ids p)) (all_at n below u j h) (k.at_child j h ∙ c) in
-          let l : v < n = ltb-true v n (and_l (ltb v n) (same_id (id_at parents j) (id_at ids p)) t) in
-          let q : key_at parents j ≡ key_at ids p = eqb-true (key_at parents j) (key_at ids p) (and_r (ltb v n) (same_id (id_at parents j) (id_at ids p)) t) in
-          (l, find_key akey m.active s (key (at j).parent) (inside v l) (lock_key v l ∙ ap (key_at ids) (sym (e l)) ∙ sym q ∙ sym (parent_key j h)))
+      the_parent a i c =
+          let t = all→ (child_under (Some v)) (sym (all_std (child_under (Some v)) m.active) ∙ u) i in
+          let q = imp_e a.child (same_id a.parent v.lock.id) (sym (imp_test a.child (same_id a.parent v.lock.id)) ∙ t) c in
+          find_key akey m.active s (key a.parent) (find→ (λ (x : ActiveLock). is_vehicle x.lock.scope) m.active e).0 (sym (eqb-true (key a.parent) (akey v) q))
 
-      -- a test of the parent is a test of the vehicle lock
-      of_vehicle : (r : ActiveLock → ActiveLock → Bool) (b : ℕ → Bool) → ((j : ℕ) → j < n → v < n → r (at v) (at j) ≡ b j)
-          → all (λ a. a.child imp of_parent (λ x. r x a) (parent_of m a)) m.active ≡ all_below n (λ j. get_or child j false imp b j)
-      of_vehicle r b f =
-          every (λ a. a.child imp of_parent (λ x. r x a) (parent_of m a))
-          ∙ all_same n (λ j. (at j).child imp of_parent (λ x. r x (at j)) (parent_of m (at j))) (λ j. get_or child j false imp b j) (λ j h.
-          imp_same (at j).child _ _ (λ c. let t = the_parent j h c in rw t.1 (f j h t.0)) ∙ ap (λ (c : Bool). c imp b j) (sym (k.at_child j h)))
+      of_vehicle : (r : ActiveLock → ActiveLock → Bool) → all (λ a. a.child imp of_parent (λ x. r x a) (parent_of m a)) m.active ≡ all (λ a. a.child imp r v a) m.active
+      of_vehicle r = all_alike _ _ m.active (λ a i. imp_same a.child _ _ (λ c. rw (the_parent a i c)))
 
-      always : all_below n (λ j. get_or child j false imp true) ≡ true
-      always = all_of n (λ j. get_or child j false imp true) (λ j h. imp_true (get_or child j false))
+      always : all (λ (a : ActiveLock). a.child imp true) m.active ≡ true
+      always = →all (λ (a : ActiveLock). a.child imp true) m.active (λ a i. imp_true a.child)
 
       three_yes : rule3 m ≡ true
       unfolding rule3
-      three_yes =
-          every (λ a. a.child imp is_some (parent_of m a))
-          ∙ all_same n (λ j. (at j).child imp is_some (parent_of m (at j))) (λ j. get_or child j false imp true) (λ j h.
-          imp_same (at j).child _ _ (λ c. rw (the_parent j h c).1) ∙ ap (λ (c : Bool). c imp true) (sym (k.at_child j h)))
-          ∙ always
+      three_yes = all_alike (λ a. a.child imp is_some (parent_of m a)) (λ a. a.child imp true) m.active (λ a i. imp_same a.child _ _ (λ c. rw (the_parent a i c))) ∙ always
 
       four_yes : rule4 m ≡ true
       unfolding rule4
-      four_yes = of_vehicle (λ x a. is_vehicle x.lock.scope) (λ j. true) (λ j h l. the_vehicle l) ∙ always
+      four_yes = of_vehicle (λ x a. is_vehicle x.lock.scope) ∙ all_alike (λ a. a.child imp is_vehicle v.lock.scope) (λ a. a.child imp true) m.active (λ a i. ap (λ (b : Bool). a.child imp b) (find→ (λ (x : ActiveLock). is_vehicle x.lock.scope) m.active e).1) ∙ always
 
-      five_law : rule5 m ≡ all_below n (λ i. get_or child i false imp eqb (get_or subjects p 0) (get_or subjects i 0))
+      five_law : rule5 m ≡ list_all (child_owned v) m.active
       unfolding rule5
-      five_law = of_vehicle (λ x a. eqb x.lock.subject a.lock.subject) (λ j. eqb (get_or subjects p 0) (get_or subjects j 0))
-          (λ j h l. rw (e l, ← (k.at_subject v l), ← (k.at_subject j h)))
+      five_law = of_vehicle (λ x a. eqb x.lock.subject a.lock.subject) ∙ sym (all_as (λ a. a.child imp eqb v.lock.subject a.lock.subject) (child_owned v) (λ a. imp_test a.child (eqb v.lock.subject a.lock.subject)) m.active)
 
-      six_law : rule6 m ≡ all_below n (λ i. get_or child i false imp within (cover_at words whole i) (cover_at words whole p))
+      six_law : rule6 m ≡ list_all (child_inside v) m.active
       unfolding rule6
-      six_law = of_vehicle (λ x a. within a.lock.coverage x.lock.coverage) (λ j. within (cover_at words whole j) (cover_at words whole p))
-          (λ j h l. rw (e l, ← (k.at_cover v l), ← (k.at_cover j h)))
+      six_law = of_vehicle (λ x a. within a.lock.coverage x.lock.coverage) ∙ sym (all_as (λ a. a.child imp within a.lock.coverage v.lock.coverage) (child_inside v) (λ a. imp_test a.child (within a.lock.coverage v.lock.coverage)) m.active)
+
+    -- where there is no vehicle lock, no lock is a child
+    module _ (e : the_vehicle ≡ None) (u : list_all (child_under None) m.active ≡ true) where
+      childless : (a : ActiveLock) → Mem a m.active → a.child ≡ false
+      childless a i = not-true a.child (all→ (child_under None) (sym (all_std (child_under None) m.active) ∙ u) i)
+
+      -- so a test of children finds none
+      none_fails : (r : ActiveLock → Bool) → all (λ a. a.child imp r a) m.active ≡ true
+      none_fails r = →all (λ a. a.child imp r a) m.active (λ a i. imp_i a.child (r a) (λ c. absurd (against (childless a i) c)))
 
     -- rules 2, 3 and 4 leave each child no other parent
-    under_yes : rule2 m ≡ true → rule3 m ≡ true → rule4 m ≡ true → all_below n below ≡ true
+    under_yes : (o : Option ActiveLock) → the_vehicle ≡ o → rule2 m ≡ true → rule3 m ≡ true → rule4 m ≡ true → list_all (child_under o) m.active ≡ true
     unfolding rule2 rule3 rule4 same_scope same_id
-    under_yes r2 r3 r4 = all_of n below (λ j h. imp_i (get_or child j false) (ltb v n and same_id (id_at parents j) (id_at ids p)) (λ c.
-        let y : (at j).child ≡ true = sym (k.at_child j h) ∙ c in
-        go j h (parent_of m (at j)) refl
-        (imp_e (at j).child (is_some (parent_of m (at j))) (all→ (λ a. a.child imp is_some (parent_of m a)) r3 (inside j h)) y)
-        (imp_e (at j).child (of_parent (λ x. is_vehicle x.lock.scope) (parent_of m (at j))) (all→ (λ a. a.child imp of_parent (λ x. is_vehicle x.lock.scope) (parent_of m a)) r4 (inside j h)) y)))
+    under_yes o e r2 r3 r4 = all_std (child_under o) m.active ∙ →all (child_under o) m.active (λ a i. child a i o e a.child refl)
       where
-        one : (q : ActiveLock) → Mem q m.active → is_vehicle q.lock.scope ≡ true → Sought (λ i. get_or scopes i 0) n 0 v → (v < n) × (akey q ≡ akey (at v))
-        one q i t (inl u) = (
-          u.0,
-          eqb-true (akey q) (akey (at v)) (imp_e (same_scope q.lock.scope (at v).lock.scope) (eqb (akey q) (akey (at v)))
-              (all→ (λ b. same_scope q.lock.scope b.lock.scope imp eqb (akey q) (akey b)) (all→ (λ a. all (λ b. same_scope a.lock.scope b.lock.scope imp eqb (akey a) (akey b)) m.active) r2 i) (inside v u.0))
-              (eq-eqb (scope_code q.lock.scope) (scope_code (at v).lock.scope) (eqb-true (scope_code q.lock.scope) 0 (vehicle_code q.lock.scope ∙ t) ∙ sym u.1 ∙ k.at_scope v u.0))),
-        )
-        one q i t (inr u) =
-            let z = at_mem blank_active i in
-            let l : z.0 < n = omega (arith, z.1, k.long) in
-            absurd (u.1 z.0 l (eqb-true (get_or scopes z.0 0) 0 (sym (vehicle_at z.0 l) ∙ ap (λ (x : ActiveLock). is_vehicle x.lock.scope) z.2 ∙ t)))
+        -- the parent is a vehicle lock, and so is the one found: rule 2 makes them one
+        one : (a : ActiveLock) → Mem a m.active → a.child ≡ true → (v : ActiveLock) → the_vehicle ≡ Some v → same_id a.parent v.lock.id ≡ true
+        one a i c v f = go (parent_of m a) refl (imp_e a.child (is_some (parent_of m a)) (all→ (λ a. a.child imp is_some (parent_of m a)) r3 i) c)
+            (imp_e a.child (of_parent (λ x. is_vehicle x.lock.scope) (parent_of m a)) (all→ (λ a. a.child imp of_parent (λ x. is_vehicle x.lock.scope) (parent_of m a)) r4 i) c)
+          where
+            go : (q : Option ActiveLock) → parent_of m a ≡ q → is_some q ≡ true → of_parent (λ x. is_vehicle x.lock.scope) q ≡ true → same_id a.parent v.lock.id ≡ true
+            go None g t t2 = absurd (false≢true t)
+            go (Some x) g t t2 =
+                let z = find→ (λ (x : ActiveLock). eqb (akey x) (key a.parent)) m.active g in
+                let w = find→ (λ (x : ActiveLock). is_vehicle x.lock.scope) m.active f in
+                let p = eqb-true (akey x) (akey v) (imp_e _ _ (all→ (λ b. same_scope x.lock.scope b.lock.scope imp eqb (akey x) (akey b)) (all→ (λ a. all (λ b. same_scope a.lock.scope b.lock.scope imp eqb (akey a) (akey b)) m.active) r2 z.0) w.0)
+                (eq-eqb _ _ (eqb-true (scope_code x.lock.scope) 0 (vehicle_code x.lock.scope ∙ t2) ∙ sym (eqb-true (scope_code v.lock.scope) 0 (vehicle_code v.lock.scope ∙ w.1))))) in
+                eq-eqb (key a.parent) (akey v) (sym (eqb-true (akey x) (key a.parent) z.1) ∙ p)
 
-        go : (j : ℕ) → j < n → (o : Option ActiveLock) → parent_of m (at j) ≡ o → is_some o ≡ true → of_parent (λ x. is_vehicle x.lock.scope) o ≡ true → (ltb v n and same_id (id_at parents j) (id_at ids p)) ≡ true
-        go j h none f t3 t4 = absurd (false≢true t3)
-        go j h (some q) f t3 t4 =
-            let z = find→ (λ a. eqb (akey a) (key (at j).parent)) m.active f in
-            let y = one q z.0 t4 w in
-            and_i (ltb v n) (same_id (id_at parents j) (id_at ids p)) (lt-ltb v n y.0)
-            (eq-eqb (key_at parents j) (key_at ids p) (sym (parent_key j h) ∙ sym (eqb-true (akey q) (key (at j).parent) z.1) ∙ y.1 ∙ lock_key v y.0 ∙ ap (key_at ids) (sym (e y.0))))
+        nobody : (a : ActiveLock) → Mem a m.active → a.child ≡ true → the_vehicle ≡ None → ⊥
+        nobody a i c f = go (parent_of m a) refl (imp_e a.child (is_some (parent_of m a)) (all→ (λ a. a.child imp is_some (parent_of m a)) r3 i) c)
+            (imp_e a.child (of_parent (λ x. is_vehicle x.lock.scope) (parent_of m a)) (all→ (λ a. a.child imp of_parent (λ x. is_vehicle x.lock.scope) (parent_of m a)) r4 i) c)
+          where
+            go : (q : Option ActiveLock) → parent_of m a ≡ q → is_some q ≡ true → of_parent (λ x. is_vehicle x.lock.scope) q ≡ true → ⊥
+            go None g t t2 = absurd (false≢true t)
+            go (Some x) g t t2 = find_none→ (λ (x : ActiveLock). is_vehicle x.lock.scope) m.active f (find→ (λ (x : ActiveLock). eqb (akey x) (key a.parent)) m.active g).0 t2
+
+        child : (a : ActiveLock) → Mem a m.active → (o : Option ActiveLock) → the_vehicle ≡ o → (b : Bool) → a.child ≡ b → child_under o a ≡ true
+        child a i (Some v) f true c = imp_test a.child (same_id a.parent v.lock.id) ∙ imp_i a.child (same_id a.parent v.lock.id) (λ t. one a i c v f)
+        child a i (Some v) f false c = rw c refl
+        child a i None f true c = absurd (nobody a i c f)
+        child a i None f false c = rw c refl
 
     -- ---- the four tests of a child, and all of them at once
-    abbrev fives : Bool
-    fives = all_below n (λ i. get_or child i false imp eqb (get_or subjects p 0) (get_or subjects i 0))
-
-    abbrev sixes : Bool
-    sixes = all_below n (λ i. get_or child i false imp within (cover_at words whole i) (cover_at words whole p))
-
-    abbrev sevens : Bool
-    sevens = all_below n (λ i. eqb (get_or scopes i 0) 0 imp non (get_or child i false))
-
-    abbrev eights : Bool
-    eights = all_below n (λ i. all_below i (λ j. non (clash_at words whole scopes subjects i j)))
-
-    abbrev threes : Bool
-    threes = all_below n (λ i. get_or child i false imp has (key_at ids) n (key_at parents i))
-
-    abbrev fits : ℕ → Bool
-    fits = fit_at n ids parents words whole child scopes subjects (ltb v n) p
-
-    fit_child : all_below n fits ≡ true → (j : ℕ) → j < n → (below j ≡ true) × ((get_or child j false imp eqb (get_or subjects p 0) (get_or subjects j 0)) ≡ true) × ((get_or child j false imp within (cover_at words whole j) (cover_at words whole p)) ≡ true) × ((eqb (get_or scopes j 0) 0 imp non (get_or child j false)) ≡ true)
-    unfolding fit_at
-    fit_child t j h = child_parts (get_or child j false) (ltb v n) (same_id (id_at parents j) (id_at ids p)) (eqb (get_or subjects p 0) (get_or subjects j 0)) (within (cover_at words whole j) (cover_at words whole p)) (eqb (get_or scopes j 0) 0) (all_at n fits t j h)
-
-    fit_parts : all_below n fits ≡ true → (all_below n below ≡ true) × (fives ≡ true) × (sixes ≡ true) × (sevens ≡ true)
-    fit_parts t = (
-      all_of n below (λ j h. (fit_child t j h).0),
-      all_of n (λ i. get_or child i false imp eqb (get_or subjects p 0) (get_or subjects i 0)) (λ j h. (fit_child t j h).1),
-      all_of n (λ i. get_or child i false imp within (cover_at words whole i) (cover_at words whole p)) (λ j h. (fit_child t j h).2),
-      all_of n (λ i. eqb (get_or scopes i 0) 0 imp non (get_or child i false)) (λ j h. (fit_child t j h).3),
-    )
-
-    fit_whole : all_below n below ≡ true → fives ≡ true → sixes ≡ true → sevens ≡ true → all_below n fits ≡ true
-    unfolding fit_at
-    fit_whole u t5 t6 t7 = all_of n fits (λ j h.
-        child_whole (get_or child j false) (ltb v n) (same_id (id_at parents j) (id_at ids p)) (eqb (get_or subjects p 0) (get_or subjects j 0)) (within (cover_at words whole j) (cover_at words whole p)) (eqb (get_or scopes j 0) 0)
-        (all_at n below u j h) (all_at n (λ i. get_or child i false imp eqb (get_or subjects p 0) (get_or subjects i 0)) t5 j h) (all_at n (λ i. get_or child i false imp within (cover_at words whole i) (cover_at words whole p)) t6 j h)
-        (all_at n (λ i. eqb (get_or scopes i 0) 0 imp non (get_or child i false)) t7 j h))
+    fit_law : (v : ActiveLock) → list_all (child_fits (Some v)) m.active ≡ (((all (child_under (Some v)) m.active and all (child_owned v) m.active) and all (child_inside v) m.active) and rule7 m)
+    unfolding rule7
+    fit_law v =
+        all_as (λ a. ((child_under (Some v) a and child_owned v a) and child_inside v a) and (is_vehicle a.lock.scope imp non a.child)) (child_fits (Some v))
+        (λ a. fit_parts a.child (same_id a.parent v.lock.id) (eqb v.lock.subject a.lock.subject) (within a.lock.coverage v.lock.coverage) (is_vehicle a.lock.scope)) m.active
+        ∙ all_and (λ a. (child_under (Some v) a and child_owned v a) and child_inside v a) (λ a. is_vehicle a.lock.scope imp non a.child) m.active
+        ∙ ap (λ (b : Bool). b and all (λ a. is_vehicle a.lock.scope imp non a.child) m.active)
+        (all_and (λ a. child_under (Some v) a and child_owned v a) (child_inside v) m.active ∙ ap (λ (b : Bool). b and all (child_inside v) m.active) (all_and (child_under (Some v)) (child_owned v) m.active))
 
     -- ---- the lowest that is broken
-    module _ (t2 : twos ≡ true) where
+    pub low_two : rule2 m ≡ false → 2 ≡ lowest_from 2 (active_rules m)
+    low_two t = sym (stop_low 2 (rule2 m) (from3 m) t)
+
+    module _ (t2 : rule2 m ≡ true) where
       from_two : lowest_from 2 (active_rules m) ≡ lowest_from 3 (from3 m)
-      from_two = next_low 2 (rule2 m) (from3 m) (two_law s ∙ t2)
+      from_two = next_low 2 (rule2 m) (from3 m) t2
 
-      low_three : all_below n (λ i. get_or child i false imp has (key_at ids) n (key_at parents i)) ≡ false → 3 ≡ lowest_from 2 (active_rules m)
-      low_three t = sym (from_two ∙ stop_low 3 (rule3 m) (from4 m) (three_law ∙ t))
+      low_three : rule3 m ≡ false → 3 ≡ lowest_from 2 (active_rules m)
+      low_three t = sym (from_two ∙ stop_low 3 (rule3 m) (from4 m) t)
 
-      low_four : all_below n below ≡ false → all_below n (λ i. get_or child i false imp has (key_at ids) n (key_at parents i)) ≡ true → 4 ≡ lowest_from 2 (active_rules m)
-      low_four u t = sym (from_two ∙ next_low 3 (rule3 m) (from4 m) (three_law ∙ t) ∙ stop_low 4 (rule4 m) (from5 m) (→no (rule4 m) (λ r. against u (under_yes (two_law s ∙ t2) (three_law ∙ t) r))))
+      module _ (o : Option ActiveLock) (e : the_vehicle ≡ o) where
+        low_four : list_all (child_under o) m.active ≡ false → rule3 m ≡ true → 4 ≡ lowest_from 2 (active_rules m)
+        low_four u t = sym (from_two ∙ next_low 3 (rule3 m) (from4 m) t ∙ stop_low 4 (rule4 m) (from5 m) (→no (rule4 m) (λ r. against u (under_yes o e t2 t r))))
 
-      module _ (u : all_below n below ≡ true) where
-        from_four : lowest_from 2 (active_rules m) ≡ lowest_from 5 (from5 m)
-        from_four = from_two ∙ next_low 3 (rule3 m) (from4 m) (three_yes u) ∙ next_low 4 (rule4 m) (from5 m) (four_yes u)
+        module _ (u : list_all (child_under o) m.active ≡ true) where
+          three_four : (rule3 m ≡ true) × (rule4 m ≡ true)
+          unfolding rule3 rule4
+          three_four = go o e u
+            where
+              go : (o : Option ActiveLock) → the_vehicle ≡ o → list_all (child_under o) m.active ≡ true → (rule3 m ≡ true) × (rule4 m ≡ true)
+              go (Some v) f w = (three_yes v f w, four_yes v f w)
+              go None f w = (none_fails f w (λ a. is_some (parent_of m a)), none_fails f w (λ a. of_parent (λ x. is_vehicle x.lock.scope) (parent_of m a)))
 
-        low_five : fives ≡ false → 5 ≡ lowest_from 2 (active_rules m)
-        low_five t = sym (from_four ∙ stop_low 5 (rule5 m) (from6 m) (five_law u ∙ t))
+          from_four : lowest_from 2 (active_rules m) ≡ lowest_from 5 (from5 m)
+          from_four = from_two ∙ next_low 3 (rule3 m) (from4 m) three_four.0 ∙ next_low 4 (rule4 m) (from5 m) three_four.1
 
-        module _ (t5 : fives ≡ true) where
-          low_six : sixes ≡ false → 6 ≡ lowest_from 2 (active_rules m)
-          low_six t = sym (from_four ∙ next_low 5 (rule5 m) (from6 m) (five_law u ∙ t5) ∙ stop_low 6 (rule6 m) (from7 m) (six_law u ∙ t))
+          low_five : rule5 m ≡ false → 5 ≡ lowest_from 2 (active_rules m)
+          low_five t = sym (from_four ∙ stop_low 5 (rule5 m) (from6 m) t)
 
-          module _ (t6 : sixes ≡ true) where
-            from_six : lowest_from 2 (active_rules m) ≡ lowest_from 7 (from7 m)
-            from_six = from_four ∙ next_low 5 (rule5 m) (from6 m) (five_law u ∙ t5) ∙ next_low 6 (rule6 m) (from7 m) (six_law u ∙ t6)
+          module _ (t5 : rule5 m ≡ true) where
+            low_six : rule6 m ≡ false → 6 ≡ lowest_from 2 (active_rules m)
+            low_six t = sym (from_four ∙ next_low 5 (rule5 m) (from6 m) t5 ∙ stop_low 6 (rule6 m) (from7 m) t)
 
-            low_seven : sevens ≡ false → 7 ≡ lowest_from 2 (active_rules m)
-            low_seven t = sym (from_six ∙ stop_low 7 (rule7 m) (from8 m) (seven_law ∙ t))
+            module _ (t6 : rule6 m ≡ true) where
+              from_six : lowest_from 2 (active_rules m) ≡ lowest_from 7 (from7 m)
+              from_six = from_four ∙ next_low 5 (rule5 m) (from6 m) t5 ∙ next_low 6 (rule6 m) (from7 m) t6
 
-            from_seven : sevens ≡ true → lowest_from 2 (active_rules m) ≡ lowest_from 8 (from8 m)
-            from_seven t = from_six ∙ next_low 7 (rule7 m) (from8 m) (seven_law ∙ t)
+              low_seven : rule7 m ≡ false → 7 ≡ lowest_from 2 (active_rules m)
+              low_seven t = sym (from_six ∙ stop_low 7 (rule7 m) (from8 m) t)
 
-      pub low_unfit : all_below n fits ≡ false → lowest_parent n ids parents words whole child scopes subjects (ltb v n) p ≡ lowest_from 2 (active_rules m)
-      unfolding lowest_parent
-      low_unfit f = by (all_below n below) (lowest_parent n ids parents words whole child scopes subjects (ltb v n) p ≡ lowest_from 2 (active_rules m))
-          (λ u. rw u (by fives (cond fives (cond sixes 7 6) 5 ≡ lowest_from 2 (active_rules m))
-          (λ t5. rw t5 (by sixes (cond sixes 7 6 ≡ lowest_from 2 (active_rules m))
-          (λ t6. rw t6 (low_seven u t5 t6 (→no sevens (λ t7. against f (fit_whole u t5 t6 t7)))))
-          (λ t6. rw t6 (low_six u t5 t6))))
-          (λ t5. rw t5 (low_five u t5))))
-          (λ u. rw u (by threes (cond threes 4 3 ≡ lowest_from 2 (active_rules m)) (λ t. rw t (low_four u t)) (λ t. rw t (low_three t))))
+              from_seven : rule7 m ≡ true → lowest_from 2 (active_rules m) ≡ lowest_from 8 (from8 m)
+              from_seven t = from_six ∙ next_low 7 (rule7 m) (from8 m) t
 
-      module _ (f : all_below n fits ≡ true) where
-        from_fit : lowest_from 2 (active_rules m) ≡ lowest_from 8 (from8 m)
-        from_fit = let w = fit_parts f in from_seven w.0 w.1 w.2 w.3
+      -- where not all tests pass at once
+      past_4 : (o : Option ActiveLock) → the_vehicle ≡ o → list_all (child_under o) m.active ≡ true → list_all (child_fits o) m.active ≡ false → lowest_past_4 m.active o ≡ lowest_from 2 (active_rules m)
+      past_4 None f u n = absurd (against n u)
+      past_4 (Some v) f u n =
+          by (list_all (child_owned v) m.active) (cond (list_all (child_owned v) m.active) (cond (list_all (child_inside v) m.active) 7 6) 5 ≡ lowest_from 2 (active_rules m))
+          (λ t5. rw t5 (by (list_all (child_inside v) m.active) (cond (list_all (child_inside v) m.active) 7 6 ≡ lowest_from 2 (active_rules m))
+          (λ t6. rw t6 (low_seven (Some v) f u (five_law v f u ∙ t5) (six_law v f u ∙ t6) (→no (rule7 m) (λ t7. against n (fit_law v ∙ and_i _ _ (and_i _ _ (and_i _ _
+          (sym (all_std (child_under (Some v)) m.active) ∙ u) (sym (all_std (child_owned v) m.active) ∙ t5)) (sym (all_std (child_inside v) m.active) ∙ t6)) t7)))))
+          (λ t6. rw t6 (low_six (Some v) f u (five_law v f u ∙ t5) (six_law v f u ∙ t6)))))
+          (λ t5. rw t5 (low_five (Some v) f u (five_law v f u ∙ t5)))
 
-        pub low_eight : eights ≡ false → 8 ≡ lowest_from 2 (active_rules m)
-        low_eight t = sym (from_fit ∙ stop_low 8 (rule8 m) [] (eight_law ∙ t))
+      -- and where they do
+      from_fit : (o : Option ActiveLock) → the_vehicle ≡ o → list_all (child_fits o) m.active ≡ true → lowest_from 2 (active_rules m) ≡ lowest_from 8 (from8 m)
+      unfolding rule5 rule6 rule7
+      from_fit None f t =
+          from_seven None f t (none_fails f t (λ a. of_parent (λ x. eqb x.lock.subject a.lock.subject) (parent_of m a))) (none_fails f t (λ a. of_parent (λ x. within a.lock.coverage x.lock.coverage) (parent_of m a)))
+          (→all (λ a. is_vehicle a.lock.scope imp non a.child) m.active (λ a i. imp_i (is_vehicle a.lock.scope) (non a.child) (λ k. yes_non a.child (childless f t a i))))
+      from_fit (Some v) f t =
+          let w = sym (fit_law v) ∙ t in
+          let w2 = and_l _ _ w in
+          let w1 = and_l _ _ w2 in
+          let u = all_std (child_under (Some v)) m.active ∙ and_l _ _ w1 in
+          from_seven (Some v) f u (five_law v f u ∙ all_std (child_owned v) m.active ∙ and_r _ _ w1) (six_law v f u ∙ all_std (child_inside v) m.active ∙ and_r _ _ w2) (and_r _ _ w)
 
-        pub low_none : eights ≡ true → 0 ≡ lowest_from 2 (active_rules m)
-        low_none t = sym (from_fit ∙ next_low 8 (rule8 m) [] (eight_law ∙ t))
+      module _ (o : Option ActiveLock) (e : the_vehicle ≡ o) where
+        pub low_unfit : list_all (child_fits o) m.active ≡ false → lowest_parent m.active o ≡ lowest_from 2 (active_rules m)
+        unfolding lowest_parent
+        low_unfit f = by (list_all (child_under o) m.active) (lowest_parent m.active o ≡ lowest_from 2 (active_rules m))
+            (λ u. rw u (past_4 o e u f))
+            (λ u. rw u (by (list_all (child_active m.active) m.active) (cond (list_all (child_active m.active) m.active) 4 3 ≡ lowest_from 2 (active_rules m))
+            (λ t. rw t (low_four o e u (three_law ∙ t))) (λ t. rw t (low_three (three_law ∙ t)))))
 
-  -- where there is no lock, none of these rules is broken
-  nobody : n ≡ 0 → m.active ≡ []
-  nobody e = go m.active (k.long ∙ e)
-    where
-      go : (l : List ActiveLock) → length l ≡ 0 → l ≡ []
-      go [] h = refl
-      go (x ∷ xs) h = absurd (omega arith)
+        module _ (f : list_all (child_fits o) m.active ≡ true) where
+          pub low_eight : rule8 m ≡ false → 8 ≡ lowest_from 2 (active_rules m)
+          low_eight t = sym (from_fit o e f ∙ stop_low 8 (rule8 m) [] t)
 
-  pub low_empty : n ≡ 0 → 0 ≡ lowest_from 2 (active_rules m)
-  low_empty e = low_nobody m (nobody e)
+          pub low_none : rule8 m ≡ true → 0 ≡ lowest_from 2 (active_rules m)
+          low_none t = sym (from_fit o e f ∙ next_low 8 (rule8 m) [] t)
+
+-- what is named is a rule
+pub parent_named : (l : List ActiveLock) (o : Option ActiveLock) → lowest_parent l o ≡ 0 → ⊥
+unfolding lowest_parent
+parent_named l o = go (list_all (child_under o) l) (list_all (child_active l) l) o
+  where
+    go : (u t : Bool) (o : Option ActiveLock) → cond {A = ℕ} u (lowest_past_4 l o) (cond t 4 3) ≡ 0 → ⊥
+    go false true o e = absurd (omega arith)
+    go false false o e = absurd (omega arith)
+    go true t None e = absurd (omega arith)
+    go true t (Some v) e = past (list_all (child_owned v) l) (list_all (child_inside v) l) e
+      where
+        past : (a b : Bool) → cond {A = ℕ} a (cond b 7 6) 5 ≡ 0 → ⊥
+        past true true e = absurd (omega arith)
+        past true false e = absurd (omega arith)
+        past false b e = absurd (omega arith)

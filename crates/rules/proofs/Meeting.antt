@@ -4,7 +4,8 @@ use mathlib.Core.Path.{◌≡◌, refl, sym, ap, ◌∙◌}
 use mathlib.Core.Bool.{true}
 use mathlib.Core.List.Memᴰ
 use mathlib.Core.List.{List, [], ◌∷◌, map}
-use mathlib.Core.Option.{Option, none, some, none-ne-some, some-injective}
+use Rattle.std.specs.Prelude.{Option, None, Some}
+use Rattle.lists.proofs.Options.{None_ne_Some, Some_injective}
 use mathlib.Core.Logic.{◌⊎◌, inl, inr}
 use Prim.Native.Nat.{ℕ, zero, suc}
 use native.Mathlib.Omega.{arith}
@@ -24,9 +25,9 @@ use Rattle.rules.proofs.Ends.{Ends, done, step, chain, chain_fresh, ends_of_rule
 meets_fresh : {t : List DefunctLock} {j k : ℕ} {ks : List ℕ} (r : Ends t j) → Meets t k ks → j ≡ k → Fresh ks × ((i : ℕ) → Mem i ks → Mem i (chain r))
 unfolding chain
 meets_fresh r here q = (tt, λ i m. absurd (Memᴰ.not-nil m))
-meets_fresh {t} (done e) (on {d = d} f p) q = absurd (none-ne-some d (sym e ∙ ap (find_d t) q ∙ f))
+meets_fresh {t} (done e) (on {d = d} f p) q = absurd (None_ne_Some d (sym e ∙ ap (find_d t) q ∙ f))
 meets_fresh {t} {j} {k} (step {d = c} e r) (on {ks = ks} {d = d} f p) q =
-    let w = meets_fresh {j = key c.target} r p (ap (λ (x : DefunctLock). key x.target) (some-injective c d (sym e ∙ ap (find_d t) q ∙ f))) in
+    let w = meets_fresh {j = key c.target} r p (ap (λ (x : DefunctLock). key x.target) (Some_injective c d (sym e ∙ ap (find_d t) q ∙ f))) in
     ((λ m. (chain_fresh (step e r)).0 (Memᴰ.cast q (w.1 k m)), w.0), met w)
   where
     met : Fresh ks × ((i : ℕ) → Mem i ks → Mem i (chain r)) → (i : ℕ) → Mem i (k ∷ ks) → Mem i (j ∷ chain r)
@@ -47,7 +48,7 @@ goes : (t : List DefunctLock) (n k : ℕ) → Ends t k ⊎ Long t k n
 goes t zero k = inr (record { ids = []; path = here; many = refl; known = λ j m. absurd (Memᴰ.not-nil m) })
 goes t (suc n) k = go (find_d t k) refl (λ j. goes t n j)
   where
-    longer : (d : DefunctLock) → find_d t k ≡ some d → Ends t (key d.target) ⊎ Long t (key d.target) n → Ends t k ⊎ Long t k (suc n)
+    longer : (d : DefunctLock) → find_d t k ≡ Some d → Ends t (key d.target) ⊎ Long t (key d.target) n → Ends t k ⊎ Long t k (suc n)
     longer d e (inl r) = inl (step e r)
     longer d e (inr w) =
         let f = find→ (λ x. eqb (dkey x) k) t e in
@@ -58,8 +59,8 @@ goes t (suc n) k = go (find_d t k) refl (λ j. goes t n j)
         met f l j (Memᴰ.tail m) = w.known j m
 
     go : (o : Option DefunctLock) → find_d t k ≡ o → ((j : ℕ) → Ends t j ⊎ Long t j n) → Ends t k ⊎ Long t k (suc n)
-    go none e f = inl (done e)
-    go (some d) e f = longer d e (f (key d.target))
+    go None e f = inl (done e)
+    go (Some d) e f = longer d e (f (key d.target))
 
 pub free_ring : (m : Model) → NoRing m → rule9 m ≡ true
 free_ring m f = rule9_of_ends m (λ d i. go d i (goes m.defunct (suc (length m.defunct)) (dkey d)))

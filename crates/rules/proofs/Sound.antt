@@ -16,7 +16,7 @@ use Rattle.state.specs.declared.LockState.{LockState}
 use Rattle.state.specs.Locks.{is_vehicle, blank_active, blank_defunct}
 use Rattle.state.specs.Model.{Model, model_of, state_of, Limits, full, fits, Tidy}
 use Rattle.state.proofs.Laws.{model-of-state}
-use Rattle.rules.specs.declared.Verdict.TheVariants.{Sound}
+use Rattle.std.specs.Prelude.{Ok}
 use Rattle.rules.specs.Rules.{zero_id, zero_set, zero_lock, is_blank_a, is_blank_d, blanks, in_order, neat, rule0, rule1, rule2, rule3, rule4, rule5, rule6, rule7, rule8, rule9, verdict, rules, broken_rule, is_sound, sound}
 use Rattle.rules.proofs.Tidy.{rule0_tidy}
 
@@ -69,21 +69,21 @@ of_facts k m f =
     f.one) f.two) f.three) f.four) f.five) f.six) f.seven) f.eight) f.nine
 
 -- ---- of the state: no rule is broken where each test passes
-verdict_yes : (n : ℕ) (bs : List Bool) → verdict n bs ≡ Sound → all (λ b. b) bs ≡ true
+verdict_yes : (n : ℕ) (bs : List Bool) → verdict n bs ≡ Ok tt → all (λ b. b) bs ≡ true
 verdict_yes n [] e = refl
 verdict_yes n (true ∷ bs) e = and_i true (all (λ b. b) bs) refl (verdict_yes (suc n) bs e)
 verdict_yes n (false ∷ bs) e = absurd (false≢true (ap is_sound e))
 
-yes_verdict : (n : ℕ) (bs : List Bool) → all (λ b. b) bs ≡ true → verdict n bs ≡ Sound
+yes_verdict : (n : ℕ) (bs : List Bool) → all (λ b. b) bs ≡ true → verdict n bs ≡ Ok tt
 yes_verdict n [] t = refl
 yes_verdict n (true ∷ bs) t = yes_verdict (suc n) bs (and_r true (all (λ b. b) bs) t)
 yes_verdict n (false ∷ bs) t = absurd (false≢true (and_l false (all (λ b. b) bs) t))
 
-all_of_rules : (s : LockState) → broken_rule s ≡ Sound → all (λ b. b) (rules s) ≡ true
+all_of_rules : (s : LockState) → broken_rule s ≡ Ok tt → all (λ b. b) (rules s) ≡ true
 unfolding broken_rule
 all_of_rules s e = verdict_yes 0 (rules s) e
 
-pub rule0_of : (s : LockState) → broken_rule s ≡ Sound → rule0 s ≡ true
+pub rule0_of : (s : LockState) → broken_rule s ≡ Ok tt → rule0 s ≡ true
 rule0_of s e = and_l _ _ (all_of_rules s e)
 
 count_fits : (s : LockState) → rule0 s ≡ true → fits full (model_of s) ≡ true
@@ -94,7 +94,7 @@ count_fits s e =
     (le-leb (length (take s.actives s.active)) 64 (omega (arith, length-take s.actives s.active, leb-true s.actives 64 (and_l _ _ e1))))
     (le-leb (length (take s.defuncts s.defunct)) 128 (omega (arith, length-take s.defuncts s.defunct, leb-true s.defuncts 128 (and_r _ _ e1))))
 
-pub facts_of_state : (s : LockState) → broken_rule s ≡ Sound → Facts full (model_of s)
+pub facts_of_state : (s : LockState) → broken_rule s ≡ Ok tt → Facts full (model_of s)
 unfolding rule0
 facts_of_state s e =
     let t0 = all_of_rules s e in
@@ -123,11 +123,11 @@ facts_of_state s e =
       nine = and_l _ _ t9;
     }
 
-pub sound_of : (s : LockState) → broken_rule s ≡ Sound → sound full (model_of s) ≡ true
+pub sound_of : (s : LockState) → broken_rule s ≡ Ok tt → sound full (model_of s) ≡ true
 sound_of s e = of_facts full (model_of s) (facts_of_state s e)
 
 -- a state's arrays have their lengths; the definition's lists need not
-pub tidy_of_sound : (s : LockState) → length s.active ≡ 64 → length s.defunct ≡ 128 → broken_rule s ≡ Sound → Tidy s
+pub tidy_of_sound : (s : LockState) → length s.active ≡ 64 → length s.defunct ≡ 128 → broken_rule s ≡ Ok tt → Tidy s
 unfolding rule0
 tidy_of_sound s la ld e =
     let z = rule0_of s e in
@@ -163,7 +163,7 @@ rule0_state m f =
     (rw (model-of-state m) f.order))
     (rw (model-of-state m) f.tidy)
 
-pub sound_state : (m : Model) → sound full m ≡ true → broken_rule (state_of m) ≡ Sound
+pub sound_state : (m : Model) → sound full m ≡ true → broken_rule (state_of m) ≡ Ok tt
 unfolding broken_rule
 sound_state m e = yes_verdict 0 (rules (state_of m)) (and_i _ _ (rule0_state m f) (rw (model-of-state m) rest))
   where

@@ -11,7 +11,7 @@ use lib.ListN.{length, get_or, set, length-set, replicate, length-replicate}
 use lib.Seq.{get_or-set_same, get_or-set_other}
 use borrow.Author.Tests.{ne_eqb, eqb-true, eqb-false, ltb-true, ltb-false}
 use Rattle.lists.proofs.Tests.{and_l, and_r, and_no, and_code, by}
-use Rattle.rules.specs.Code.{Sought, Step, Out, past, via, Path, single, longer, LeadsOut}
+use Rattle.rules.specs.Code.{Step, Out, past, via, Path, single, longer, LeadsOut}
 
 -- ---- how many places no walk passed
 abbrev pub zeros : List ℕ → ℕ
@@ -36,10 +36,6 @@ module _ (j n x : ℕ) where
   stays t = by (ltb j n) ((n ≤ j) ⊎ (x ≡ 0 → ⊥))
       (λ u. inr (eqb-false x 0 (and_no (ltb j n) (eqb x 0) (sym (and_code (ltb j n) (eqb x 0)) ∙ t) u)))
       (λ u. inl (ltb-false j n u))
-
-pub sought_le : (at : ℕ → ℕ) (n k r : ℕ) → Sought at n k r → r ≤ n
-sought_le at n k r (inl w) = omega (arith, w.0)
-sought_le at n k r (inr w) = omega (arith, w.0)
 
 module _ (next : List ℕ) (n : ℕ) where
   -- what leads to a place that leads out leads out

@@ -1,19 +1,19 @@
 -- What only the contracts of the crate's own functions name: a reader of the rules need not believe or read any of it. The
 -- public contract is `broken_rule` (Rules.antt) alone, and the proofs join the two.
--- The code keeps columns of numbers of the two lists, read by place. An id list has two words an id, first half first, as
--- the lists that callers hand in; a coverage has four words and a flag. Then places in a sorted id list, steps from place
--- to place, and the tests of rules 2 to 8 by place.
-use Rattle.std.specs.Prelude.{◌≡◌, Bool, true, false, cond, List, [], ◌∷◌, ◌⊎◌, ℕ, suc, ◌+◌, ◌-◌, ◌*◌, ◌/◌, ◌%◌, ◌≤◌, ◌<◌, eqb, length, get_or}
-use Rattle.lists.specs.Tests.{non, ◌and◌, ◌or◌, ◌imp◌}
-use Rattle.lists.specs.Below.{all_below, any_below}
+-- Places in a list that ascends, steps from place to place, and the tests of rules 3 to 8 as the code makes them.
+use Rattle.std.specs.Prelude.{◌≡◌, Bool, true, false, cond, List, [], ◌∷◌, ◌⊎◌, ℕ, suc, ◌+◌, ◌*◌, ◌/◌, ◌%◌, ◌^◌, ◌≤◌, ◌<◌, eqb, length, get_or}
+use Rattle.std.specs.Prelude.{Option, None, Some, not, ◌&&◌, ◌||◌}
+use Rattle.std.specs.List.{list_all, list_any}
+use Rattle.lists.specs.Tests.{non, ◌and◌, ◌or◌}
+use Rattle.lists.specs.Lists.{Mem}
 use Rattle.ids.specs.declared.LockId.{LockId}
 use Rattle.ids.specs.Order.{key, same_id}
 use Rattle.coverage.specs.declared.LockCoverage.{LockCoverage}
 use Rattle.std.specs.Int.Bits.{bit_or}
-use Rattle.coverage.specs.Coverage.{overlap, within}
+use Rattle.coverage.specs.Coverage.{within}
 use Rattle.state.specs.declared.ActiveLock.{ActiveLock}
 use Rattle.state.specs.declared.DefunctLock.{DefunctLock}
-use Rattle.state.specs.Locks.{scope_code, blank_active, blank_defunct}
+use Rattle.state.specs.Locks.{dkey, is_vehicle, blank_defunct}
 use Rattle.state.specs.Model.{Model}
 use Rattle.rules.specs.declared.shapes.Dirt.{Dirt}
 use Rattle.rules.specs.Rules.{rule2, rule3, rule4, rule5, rule6, rule7, rule8}
@@ -26,15 +26,16 @@ clean d = eqb d.even 0 and eqb d.odd 0 and eqb d.rest 0 and non d.flag
 abbrev pub spotless : Dirt
 spotless = record { even = 0; odd = 0; rest = 0; flag = false }
 
--- ---- columns
-abbrev pub id_at : List ℕ → ℕ → LockId
-id_at l i = record { hi = get_or l (2 * i) 0; lo = get_or l (2 * i + 1) 0 }
+-- ---- a list of rows, each with a key
+abbrev pub keyed : {A : Type 0} → (A → ℕ) → ℕ → A → Bool
+keyed f k x = eqb (f x) k
 
-abbrev pub key_at : List ℕ → ℕ → ℕ
-key_at l i = key (id_at l i)
+-- ---- the two lists without their state: what rules 1 to 9 are of
+abbrev pub lists : List ActiveLock → List DefunctLock → Model
+lists a d = record { revision = 0; active = a; defunct = d }
 
-abbrev pub cover_at : List ℕ → List Bool → ℕ → LockCoverage
-cover_at w f i = record { w0 = get_or w (4 * i) 0; w1 = get_or w (4 * i + 1) 0; w2 = get_or w (4 * i + 2) 0; w3 = get_or w (4 * i + 3) 0; whole = get_or f i false }
+abbrev pub entry_key : List DefunctLock → ℕ → ℕ
+entry_key l i = dkey (get_or l i blank_defunct)
 
 -- ---- places in a list of n keys
 -- r is the place below n that has the key k, or n where none has
@@ -45,21 +46,25 @@ Sought at n k r = ((r < n) × (at r ≡ k)) ⊎ ((r ≡ n) × ((i : ℕ) → i <
 abbrev pub Sorted : (ℕ → ℕ) → ℕ → Type 0
 Sorted at n = (i j : ℕ) → i < j → j < n → at i < at j
 
--- r says whether each key is below the next
-abbrev pub Rising : (ℕ → ℕ) → ℕ → Bool → Type 0
-Rising at n r = ((r ≡ true) × ((j : ℕ) → j + 1 < n → at j < at (j + 1))) ⊎ ((r ≡ false) × ((i : ℕ) × (1 ≤ i) × (i < n) × (at i ≤ at (i - 1))))
+-- ---- columns of entries that go (operations): an id list has two words an id, first half first
+abbrev pub id_at : List ℕ → ℕ → LockId
+id_at l i = record { hi = get_or l (2 * i) 0; lo = get_or l (2 * i + 1) 0 }
 
--- some place below n has the key k
-abbrev pub has : (ℕ → ℕ) → ℕ → ℕ → Bool
-has at n k = any_below n (λ j. eqb (at j) k)
+abbrev pub key_at : List ℕ → ℕ → ℕ
+key_at l i = key (id_at l i)
 
--- ---- a table with 1024 slots, in each one more than the last place whose id goes there, or 0
-unfoldable pub slot_of : LockId → ℕ
-slot_of i = (i.hi / 4294967296 % 1024 + i.lo % 1024) % 1024
+pub record Entries (t : List DefunctLock) (n : ℕ) (gone targets : List ℕ) : Type 0 where
+  pub long : length t ≡ n
+  pub at_gone : (i : ℕ) → i < n → id_at gone i ≡ (get_or t i blank_defunct).lock.id
+  pub at_target : (i : ℕ) → i < n → id_at targets i ≡ (get_or t i blank_defunct).target
 
-pub record Slotted (l : List ℕ) (n : ℕ) (t : List ℕ) : Type 0 where
+-- ---- a table with 1024 slots for n keys, in each one more than the last place whose key goes there, or 0
+unfoldable pub slot_of : ℕ → ℕ
+slot_of k = (k / 2 ^ 96 % 1024 + k % 1024) % 1024
+
+pub record Slotted (at : ℕ → ℕ) (n : ℕ) (t : List ℕ) : Type 0 where
   pub long : length t ≡ 1024
-  pub used : (i : ℕ) → i < n → 0 < get_or t (slot_of (id_at l i)) 0
+  pub used : (i : ℕ) → i < n → 0 < get_or t (slot_of (at i)) 0
   pub small : (k : ℕ) → get_or t k 0 ≤ n
 
 -- ---- steps along a table that names for each of n places the next; a place that is not below n is out
@@ -81,69 +86,43 @@ module _ (next : List ℕ) (n : ℕ) where
   abbrev pub LeadsOut : Bool → Type 0
   LeadsOut r = ((r ≡ true) × ((p : ℕ) → p < n → Out p)) ⊎ ((r ≡ false) × ((p : ℕ) × (p < n) × Path p p))
 
--- ---- what the columns say of the lists
--- the columns say of each place what the list l has there
-pub record Columns (l : List ActiveLock) (n : ℕ) (ids parents words : List ℕ) (whole child : List Bool) (scopes subjects : List ℕ) : Type 0 where
-  pub long : length l ≡ n
-  pub at_id : (i : ℕ) → i < n → id_at ids i ≡ (get_or l i blank_active).lock.id
-  pub at_parent : (i : ℕ) → i < n → id_at parents i ≡ (get_or l i blank_active).parent
-  pub at_cover : (i : ℕ) → i < n → cover_at words whole i ≡ (get_or l i blank_active).lock.coverage
-  pub at_child : (i : ℕ) → i < n → get_or child i false ≡ (get_or l i blank_active).child
-  pub at_scope : (i : ℕ) → i < n → get_or scopes i 0 ≡ scope_code (get_or l i blank_active).lock.scope
-  pub at_subject : (i : ℕ) → i < n → get_or subjects i 0 ≡ (get_or l i blank_active).lock.subject
+-- ---- rules 3 to 7 by the vehicle lock, if there is one: what they ask of a lock, as the code tests it
+-- a child's parent is that lock
+abbrev pub child_under : Option ActiveLock → ActiveLock → Bool
+child_under (Some v) a = not a.child || same_id a.parent v.lock.id
+child_under None a = not a.child
 
-pub record Entries (t : List DefunctLock) (n : ℕ) (gone targets : List ℕ) : Type 0 where
-  pub long : length t ≡ n
-  pub at_gone : (i : ℕ) → i < n → id_at gone i ≡ (get_or t i blank_defunct).lock.id
-  pub at_target : (i : ℕ) → i < n → id_at targets i ≡ (get_or t i blank_defunct).target
+-- some active lock is the parent
+abbrev pub child_active : List ActiveLock → ActiveLock → Bool
+child_active l a = not a.child || list_any (λ p. same_id p.lock.id a.parent) l
 
--- there are at most 64 locks, each column has n places, and a scope's number is below 513
-pub record Room (n : ℕ) (ids parents words : List ℕ) (whole child : List Bool) (scopes subjects : List ℕ) : Type 0 where
-  pub few : n ≤ 64
-  pub ids_fit : 2 * n ≤ length ids
-  pub parents_fit : 2 * n ≤ length parents
-  pub words_fit : 4 * n ≤ length words
-  pub whole_fit : n ≤ length whole
-  pub child_fit : n ≤ length child
-  pub scopes_fit : n ≤ length scopes
-  pub subjects_fit : n ≤ length subjects
-  pub codes : (i : ℕ) → i < n → get_or scopes i 0 < 513
+abbrev pub child_owned : ActiveLock → ActiveLock → Bool
+child_owned v a = not a.child || eqb v.lock.subject a.lock.subject
 
--- ---- rules 3 to 7 by place: `some` says whether there is a vehicle lock, which is then at place p
-module _ (n : ℕ) (ids parents words : List ℕ) (whole child : List Bool) (scopes subjects : List ℕ) (some : Bool) (p : ℕ) where
-  -- what they ask of the lock at place i, all at once
-  unfoldable pub fit_at : ℕ → Bool
-  fit_at i = get_or child i false imp (some and same_id (id_at parents i) (id_at ids p) and eqb (get_or subjects p 0) (get_or subjects i 0) and within (cover_at words whole i) (cover_at words whole p) and non (eqb (get_or scopes i 0) 0))
+abbrev pub child_inside : ActiveLock → ActiveLock → Bool
+child_inside v a = not a.child || within a.lock.coverage v.lock.coverage
 
-  -- rules 3 and 4, rule 3 alone, rule 5, rule 6
-  abbrev pub under_all : Bool
-  under_all = all_below n (λ i. get_or child i false imp (some and same_id (id_at parents i) (id_at ids p)))
+-- rules 3 to 7 at once
+abbrev pub child_fits : Option ActiveLock → ActiveLock → Bool
+child_fits (Some v) a = not a.child || (((same_id a.parent v.lock.id && eqb v.lock.subject a.lock.subject) && within a.lock.coverage v.lock.coverage) && not (is_vehicle a.lock.scope))
+child_fits None a = not a.child
 
-  abbrev pub active_all : Bool
-  active_all = all_below n (λ i. get_or child i false imp has (key_at ids) n (key_at parents i))
+-- the lowest that is broken, where one is
+abbrev pub lowest_past_4 : List ActiveLock → Option ActiveLock → ℕ
+lowest_past_4 l (Some v) = cond (list_all (child_owned v) l) (cond (list_all (child_inside v) l) 7 6) 5
+lowest_past_4 l None = 7
 
-  abbrev pub owned_all : Bool
-  owned_all = all_below n (λ i. get_or child i false imp eqb (get_or subjects p 0) (get_or subjects i 0))
+unfoldable pub lowest_parent : List ActiveLock → Option ActiveLock → ℕ
+lowest_parent l v = cond (list_all (child_under v) l) (lowest_past_4 l v) (cond (list_all (child_active l) l) 4 3)
 
-  abbrev pub inside_all : Bool
-  inside_all = all_below n (λ i. get_or child i false imp within (cover_at words whole i) (cover_at words whole p))
-
-  -- the lowest that is broken, where one is
-  unfoldable pub lowest_parent : ℕ
-  lowest_parent = cond under_all (cond owned_all (cond inside_all 7 6) 5) (cond active_all 4 3)
-
--- ---- rule 8 by place
+-- ---- rule 8
 abbrev pub union : LockCoverage → LockCoverage → LockCoverage
 union a b = record { w0 = bit_or a.w0 b.w0; w1 = bit_or a.w1 b.w1; w2 = bit_or a.w2 b.w2; w3 = bit_or a.w3 b.w3; whole = a.whole or b.whole }
 
-unfoldable pub clash_at : List ℕ → List Bool → List ℕ → List ℕ → ℕ → ℕ → Bool
-clash_at words whole scopes subjects i j =
-    non (eqb (get_or scopes i 0) 0) and non (eqb (get_or scopes j 0) 0) and overlap (cover_at words whole i) (cover_at words whole j) and non (eqb (get_or subjects i 0) (get_or subjects j 0))
-
--- what is kept of the non-vehicle locks before place i: whether all have the first place's subject, and a set that has theirs
-pub record Before (words : List ℕ) (whole : List Bool) (scopes subjects : List ℕ) (i : ℕ) (same : Bool) (all : LockCoverage) : Type 0 where
-  pub friends : same ≡ true → (j : ℕ) → j < i → (get_or scopes j 0 ≡ 0 → ⊥) → get_or subjects j 0 ≡ get_or subjects 0 0
-  pub covered : (j : ℕ) → j < i → (get_or scopes j 0 ≡ 0 → ⊥) → within (cover_at words whole j) all ≡ true
+-- what is kept of the non-vehicle locks of a list: whether all have one subject, and a set that has their ECUs
+pub record Kept (l : List ActiveLock) (subject : ℕ) (same : Bool) (set : LockCoverage) : Type 0 where
+  pub friends : same ≡ true → (y : ActiveLock) → Mem y l → is_vehicle y.lock.scope ≡ false → y.lock.subject ≡ subject
+  pub covered : (y : ActiveLock) → Mem y l → is_vehicle y.lock.scope ≡ false → within y.lock.coverage set ≡ true
 
 -- ---- the lowest of rules 2 to 8 that is broken, 0 for none
 abbrev pub lowest_from : ℕ → List Bool → ℕ

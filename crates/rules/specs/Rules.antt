@@ -1,7 +1,7 @@
 -- A sound state: rules 0 to 9 as tests, and the lowest broken rule. Document 01, "A sound state", sentence by sentence.
 -- Rule 0 is of the state, since it speaks of counts and blanks; rules 1 to 9 are of its two lists (the Model).
 use Rattle.std.specs.Prelude.{Bool, true, false, cond, List, [], ◌∷◌, ◌≡◌, ℕ, zero, suc, eqb, leb, length, drop}
-use Rattle.std.proofs.Math.Option.{Option, none, some}
+use Rattle.std.specs.Prelude.{Option, None, Some}
 use Rattle.lists.specs.Tests.{◌and◌, ◌or◌, ◌imp◌, non}
 use Rattle.lists.specs.Lists.{find, all, any, Mem, Fresh, ascending}
 use Rattle.ids.specs.declared.LockId.{LockId}
@@ -14,8 +14,9 @@ use Rattle.state.specs.declared.DefunctLock.{DefunctLock}
 use Rattle.state.specs.declared.LockState.{LockState}
 use Rattle.state.specs.Locks.{akey, dkey, is_vehicle, same_scope}
 use Rattle.state.specs.Model.{Model, model_of, Limits, fits}
-use Rattle.rules.specs.declared.Verdict.{Verdict}
-use Rattle.rules.specs.declared.Verdict.TheVariants.{Sound, Broken}
+use Rattle.std.specs.Prelude.{Result, Ok, Err, ⊤}
+use Rattle.rules.specs.declared.Unsound.{Unsound}
+use Rattle.rules.specs.declared.Unsound.TheVariants.{Rule}
 
 -- ---- words of the rules: the lock with the id k in a list
 abbrev pub find_a : List ActiveLock → ℕ → Option ActiveLock
@@ -80,12 +81,12 @@ rule2 m = pairs (λ a b. same_scope a.lock.scope b.lock.scope imp eqb (akey a) (
 
 -- a test of a lock's parent, where it has one that is active
 abbrev pub of_parent : (ActiveLock → Bool) → Option ActiveLock → Bool
-of_parent p none = true
-of_parent p (some x) = p x
+of_parent p None = true
+of_parent p (Some x) = p x
 
 abbrev pub is_some : {A : Type 0} → Option A → Bool
-is_some none = false
-is_some (some x) = true
+is_some None = false
+is_some (Some x) = true
 
 abbrev pub parent_of : Model → ActiveLock → Option ActiveLock
 parent_of m a = find_a m.active (key a.parent)
@@ -121,7 +122,7 @@ rule8 m = pairs (λ a b. non (clash a.lock b.lock)) m
 -- From the id k, through defunct entries, the ids ks are met, one after the other.
 pub data Meets (t : List DefunctLock) : ℕ → List ℕ → Type 0 where
   here : {k : ℕ} → Meets t k []
-  on : {k : ℕ} {ks : List ℕ} {d : DefunctLock} → find_d t k ≡ some d → Meets t (key d.target) ks → Meets t k (k ∷ ks)
+  on : {k : ℕ} {ks : List ℕ} {d : DefunctLock} → find_d t k ≡ Some d → Meets t (key d.target) ks → Meets t k (k ∷ ks)
 
 abbrev pub NoRing : Model → Type 0
 NoRing m = (d : DefunctLock) → Mem d m.defunct → (ks : List ℕ) → Meets m.defunct (dkey d) ks → Fresh ks
@@ -130,25 +131,25 @@ NoRing m = (d : DefunctLock) → Mem d m.defunct → (ks : List ℕ) → Meets m
 -- second time; n bounds the entries still to pass, and a walk that meets no id twice passes at most as many as there are.
 unfoldable pub meets_none : ℕ → List DefunctLock → List ℕ → ℕ → Bool
 meets_none zero t seen k = non (has_d t k)
-meets_none (suc n) t seen k = elim (find_d t k) [ none ↦ true | some d ↦ non (any (eqb k) seen) and meets_none n t (k ∷ seen) (key d.target) ]
+meets_none (suc n) t seen k = elim (find_d t k) [ None ↦ true | Some d ↦ non (any (eqb k) seen) and meets_none n t (k ∷ seen) (key d.target) ]
 
 unfoldable pub rule9 : Model → Bool
 rule9 m = all (λ d. meets_none (length m.defunct) m.defunct [] (dkey d)) m.defunct
 
 -- ---- "The lowest broken rule is named."
-abbrev pub verdict : ℕ → List Bool → Verdict
-verdict n [] = Sound
-verdict n (b ∷ bs) = let r = verdict (suc n) bs in cond b r (Broken n)
+abbrev pub verdict : ℕ → List Bool → Result ⊤ Unsound
+verdict n [] = Ok tt
+verdict n (b ∷ bs) = let r = verdict (suc n) bs in cond b r (Err (Rule n))
 
 abbrev pub rules : LockState → List Bool
 rules s = let m = model_of s in rule0 s ∷ rule1 m ∷ rule2 m ∷ rule3 m ∷ rule4 m ∷ rule5 m ∷ rule6 m ∷ rule7 m ∷ rule8 m ∷ rule9 m ∷ []
 
-unfoldable pub broken_rule : LockState → Verdict
+unfoldable pub broken_rule : LockState → Result ⊤ Unsound
 broken_rule s = verdict 0 (rules s)
 
-abbrev pub is_sound : Verdict → Bool
-is_sound Sound = true
-is_sound (Broken n) = false
+abbrev pub is_sound : Result ⊤ Unsound → Bool
+is_sound (Ok tt) = true
+is_sound (Err (Rule n)) = false
 
 -- ---- the same of the lists alone, over any limits: what demand 3 keeps
 unfoldable pub sound : Limits → Model → Bool

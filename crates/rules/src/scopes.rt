@@ -1,12 +1,12 @@
 // Rule 2: one active lock a scope. Scopes are their numbers (state::scope_code), 0 for the vehicle.
 // SPDX-License-Identifier: Apache-2.0
-ghost use Rattle.std.specs.Prelude.{◌≡◌, ℕ, ◌≤◌, ◌<◌, eqb, length, get_or};
-ghost use Rattle.lists.specs.Tests.{non};
-ghost use Rattle.lists.specs.Below.{all_below};
-ghost use Rattle.state.specs.Locks.{scope_code};
-ghost use Rattle.rules.specs.Code.{Sought};
+ghost use Rattle.std.specs.Prelude.{◌≡◌, ◌<◌, true, []};
+ghost use Rattle.lists.specs.Lists.{ascending, find};
+ghost use Rattle.state.specs.Locks.{akey, scope_code, is_vehicle};
+ghost use Rattle.rules.specs.Rules.{rule2};
+ghost use Rattle.rules.specs.Code.{lists};
 
-use state::ScopeKey;
+use state::{ActiveLock, ScopeKey};
 
 // A scope's number, which is below 513: the match tells that the number in a scope is a byte.
 pub(crate) fn number(k: ScopeKey) -> usize
@@ -20,34 +20,27 @@ pub(crate) fn number(k: ScopeKey) -> usize
     }
 }
 
-pub(crate) fn one_each(scopes: &[usize], n: usize) -> bool
-    requires { (n ≤ length scopes.now) × ((i : ℕ) → i < n → get_or scopes.now i 0 < 513) }
-    ensures { result ≡ all_below n (λ i. all_below i (λ j. non (eqb (get_or scopes.now i 0) (get_or scopes.now j 0)))) }
+pub(crate) fn one_each(active: &[ActiveLock]) -> bool
+    requires { ascending akey active.now ≡ true }
+    ensures { result ≡ rule2 (lists active.now []) }
 {
     let mut seen = [false; 513];
-    let mut i: usize = 0;
-    while i < n {
-        let k = scopes[i];
+    for a in active {
+        let k = number(a.lock.scope);
         if seen[k] {
             return false;
         }
         seen[k] = true;
-        i += 1;
     }
     true
 }
 
-// The place of the vehicle lock; n where there is none.
-pub(crate) fn vehicle(scopes: &[usize], n: usize) -> usize
-    requires { n ≤ length scopes.now }
-    ensures { Sought (λ i. get_or scopes.now i 0) n 0 result }
+// The vehicle lock.
+pub(crate) fn vehicle(active: &[ActiveLock]) -> Option<ActiveLock>
+    ensures { result ≡ find (λ a. is_vehicle a.lock.scope) active.now }
 {
-    let mut i: usize = 0;
-    while i < n {
-        if scopes[i] == 0 {
-            return i;
-        }
-        i += 1;
-    }
-    n
+    active
+        .iter()
+        .copied()
+        .find(|a| state::is_vehicle(a.lock.scope))
 }

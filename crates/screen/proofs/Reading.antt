@@ -8,7 +8,7 @@ use lib.Seq.{take_all}
 use Rattle.lists.specs.Places.{in_places}
 use Rattle.state.specs.declared.LockState.{LockState}
 use Rattle.state.specs.Model.{model_of}
-use Rattle.rules.specs.declared.Verdict.TheVariants.{Sound}
+use Rattle.std.specs.Prelude.{Result, Ok}
 use Rattle.rules.specs.Rules.{broken_rule}
 use Rattle.records.specs.Numbers.{big, bytes_of, field}
 use Rattle.records.specs.Layouts.{pack}
@@ -16,16 +16,16 @@ use Rattle.records.specs.Feeds.{words_in}
 use Rattle.records.specs.Wire.{id, id_bytes}
 use Rattle.records.proofs.Numbers.{Bytes}
 use Rattle.records.proofs.Layouts.{pack_fields}
-use Rattle.image.specs.declared.Writing.{Writing}
+use Rattle.image.specs.declared.WriteRefusal.{WriteRefusal}
 use Rattle.board.specs.Board.{board_of}
 use Rattle.board.specs.Forms.{Boarded, boarded, fresh_on}
 use Rattle.board.proofs.Theorems.{fresh_is}
 
 -- nothing stands after it in a buffer of its size
-pub board_alone : (s : LockState) (out : List ℕ) {r : Writing} {o : List ℕ} → broken_rule s ≡ Sound → length out ≡ 4352 → boarded r o ≡ fresh_on s out → o ≡ board_of (model_of s).active
+pub board_alone : (s : LockState) (out : List ℕ) {r : (Result ℕ WriteRefusal)} {o : List ℕ} → broken_rule s ≡ Ok tt → length out ≡ 4352 → boarded r o ≡ fresh_on s out → o ≡ board_of (model_of s).active
 board_alone s out e l f =
     let h : length out ≤ 4352 = omega arith in
-    ap (λ (w : Boarded Writing). w.board) (f ∙ fresh_is s e out (omega arith))
+    ap (λ (w : Boarded (Result ℕ WriteRefusal)). w.board) (f ∙ fresh_is s e out (omega arith))
     ∙ ap (λ (rest : List ℕ). board_of (model_of s).active ++ rest) (drop_of_length-le out h)
     ∙ append-nil (board_of (model_of s).active)
 

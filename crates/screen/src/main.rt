@@ -4,7 +4,6 @@
 #![tactic(auto)]
 
 ghost use Rattle.std.specs.Prelude.{◌≡◌, length};
-ghost use Rattle.rules.specs.declared.Verdict.TheVariants.{Sound};
 ghost use Rattle.rules.specs.Rules.{broken_rule};
 ghost use Rattle.state.specs.Model.{model_of};
 ghost use Rattle.records.specs.Wire.{id_bytes};
@@ -12,19 +11,21 @@ ghost use Rattle.board.specs.Board.{board_of};
 ghost use Rattle.printing.specs.Files.{FromBytes};
 
 use ids::LockId;
-use printing::Given;
+use image::Spare;
+use printing::text::IdText;
 use records::requests;
 use state::LockState;
 use std::env::FillError;
+use std::io;
 use std::rt::Env;
 
 // The board of a sound state: into a buffer of its size it is never refused.
 fn board_of(state: LockState) -> [u8; board::SIZE]
-    requires { broken_rule state ≡ Sound }
+    requires { broken_rule state ≡ Ok tt }
     ensures { result ≡ board_of (model_of state).active }
 {
     let mut out = [0u8; board::SIZE];
-    board::fresh(state, &mut out);
+    let _ = board::fresh(state, &mut out);
     out
 }
 
@@ -40,37 +41,36 @@ fn id_in(bytes: &[u8]) -> LockId
     }
 }
 
-fn line(rt: &impl Print, e: usize, entry: &[u8])
+fn line(rt: &impl Print, e: usize, entry: &[u8]) -> io::Result<()>
     requires { length entry.now ≡ 17 }
 {
     let count = entry[0];
     if count == 0 {
-        return;
+        return Ok(());
     }
-    printing::number(rt, b"ecu ", e as u64);
-    printing::number(rt, b" locks ", count as u64);
-    printing::id(rt, b" lowest ", id_in(&entry[1..board::ENTRY]));
-    printing::say(rt, b"\n");
+    println!(rt;
+        "ecu {e} locks {count} lowest {}",
+        IdText(id_in(&entry[1..]))
+    )
 }
 
-fn lines(rt: &impl Print, board: [u8; board::SIZE]) {
-    let mut e: usize = 0;
-    while e < board::ECUS {
-        let at = e * board::ENTRY;
-        line(rt, e, &board[at..at + board::ENTRY]);
-        e += 1;
+fn lines(rt: &impl Print, board: &[u8]) -> io::Result<()> {
+    for (e, entry) in board.chunks_exact(board::ENTRY).enumerate() {
+        line(rt, e, entry)?;
     }
+    Ok(())
 }
 
-fn screen(rt: &impl Print, given: Given)
+fn screen(rt: &impl Print, given: Option<Spare>)
     requires { FromBytes given }
 {
-    if given.accepted {
-        lines(rt, board_of(given.spare.state));
+    // What can't be written is passed over.
+    if let Some(spare) = given {
+        let _ = lines(rt, &board_of(spare.state));
     }
 }
 
-// No path is as long as the buffer: a name that is too long reads as none.
+// No path is as long as the buffer: a name that is too long reads as none. Not by env::args, which has text alone.
 fn main(rt: HostRuntime) {
     let mut name = [0u8; 4096];
     let given = match rt.arg(1, &mut name) {

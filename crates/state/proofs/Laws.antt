@@ -10,11 +10,13 @@ use lib.ListN.{length, take, replicate, length-append, length-replicate}
 use borrow.Author.Tests.{eqb-true, eq-eqb, ne_eqb}
 use Rattle.lists.specs.Places.{in_places}
 use Rattle.lists.proofs.Loops.{front}
+use Rattle.lists.proofs.Tests.{same_test}
 use Rattle.ids.specs.Order.{no_id}
 use Rattle.coverage.specs.declared.LockCoverage.{LockCoverage}
 use Rattle.coverage.specs.Coverage.{covers}
 use Rattle.state.specs.declared.ScopeKey.{ScopeKey}
 use Rattle.state.specs.declared.ScopeKey.TheVariants.{Vehicle, Ecu, FunctionalGroup}
+use Rattle.state.specs.contracts.ScopeKeyPartialEq as derived
 use Rattle.state.specs.declared.ActiveLock.{ActiveLock}
 use Rattle.state.specs.declared.LockState.{LockState}
 use Rattle.state.specs.Locks.{is_vehicle, ecu_in, scope_code, same_scope, blank_active, blank_defunct, with_coverage, normal_coverage, normal}
@@ -41,6 +43,25 @@ same_scope_one a b t = scope_one a b (eqb-true (scope_code a) (scope_code b) t)
 pub same_scope_refl : (a : ScopeKey) → same_scope a a ≡ true
 unfolding same_scope
 same_scope_refl a = eq-eqb (scope_code a) (scope_code a) refl
+
+-- the derived `==` of scopes
+by_code : (r n m : ℕ) → eqb n m ≡ eqb (n * 2 + r) (m * 2 + r)
+by_code r n m = same_test (eqb n m) (eqb (n * 2 + r) (m * 2 + r)) (λ t. eq-eqb _ _ (ap (λ (x : ℕ). x * 2 + r) (eqb-true n m t))) (λ t. let e = eqb-true (n * 2 + r) (m * 2 + r) t in eq-eqb n m (omega arith))
+
+apart : (n m : ℕ) → (n ≡ m → ⊥) → false ≡ eqb n m
+apart n m h = sym (ne_eqb n m h)
+
+pub eq_scope : (a b : ScopeKey) → (derived.TheImpl.eq-value).it a b ≡ same_scope a b
+unfolding scope_code same_scope
+eq_scope Vehicle Vehicle = refl
+eq_scope Vehicle (Ecu m) = apart _ _ (λ e. omega arith)
+eq_scope Vehicle (FunctionalGroup m) = apart _ _ (λ e. omega arith)
+eq_scope (Ecu n) Vehicle = apart _ _ (λ e. omega arith)
+eq_scope (Ecu n) (Ecu m) = by_code 1 n m
+eq_scope (Ecu n) (FunctionalGroup m) = apart _ _ (λ e. omega arith)
+eq_scope (FunctionalGroup n) Vehicle = apart _ _ (λ e. omega arith)
+eq_scope (FunctionalGroup n) (Ecu m) = apart _ _ (λ e. omega arith)
+eq_scope (FunctionalGroup n) (FunctionalGroup m) = by_code 2 n m
 
 pub same_scope_sym : (a b : ScopeKey) → same_scope a b ≡ true → same_scope b a ≡ true
 unfolding same_scope

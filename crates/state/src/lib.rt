@@ -3,14 +3,15 @@
 #![tactic(auto)]
 
 ghost use Rattle.std.specs.Prelude.{◌≡◌};
+ghost use Rattle.lists.specs.Lists.{find};
 ghost use Rattle.state.specs.Locks.{is_vehicle, is_group, ecu_in, scope_code, same_scope, blank_lock, blank_active, blank_defunct, normal_coverage, normal, has_id, has_id_d};
-ghost use Rattle.state.specs.Model.{empty_model, state_of};
+ghost use Rattle.state.specs.Model.{empty_model, state_of, model_of};
 
 use coverage::LockCoverage;
 use ids::LockId;
 
 // Vehicle is first, so a blank is the all-zero value.
-#[derive(Clone, Copy)]
+#[derive(Clone, Copy, PartialEq, Eq)]
 pub enum ScopeKey {
     Vehicle,
     Ecu(u8),
@@ -20,7 +21,7 @@ pub enum ScopeKey {
 // What an active and a defunct lock share: document 01's "lock start". A field has the original's name unless it says
 // another; a name of one word stays one in the definitions, which would have to quote `broken_at`.
 // Large fields first: the compiler keeps the declared order.
-#[derive(Clone, Copy)]
+#[derive(Clone, Copy, PartialEq, Eq)]
 pub struct Lock {
     pub id: LockId,
     pub coverage: LockCoverage,
@@ -34,17 +35,18 @@ pub struct Lock {
 }
 
 // The original's fields of the lock itself stand in `lock`.
-#[derive(Clone, Copy)]
+#[derive(Clone, Copy, PartialEq, Eq)]
 pub struct ActiveLock {
     pub lock: Lock,
     // parent_vehicle_lock_id, where child says that there is one; else zero
+    // The flag stands beside the parent: rule 0 refuses a parent without it (rules/specs/Rules.antt, neat_a), which no Option holds.
     pub parent: LockId,
     // expires_at
     pub expires: u64,
     pub child: bool,
 }
 
-#[derive(Clone, Copy)]
+#[derive(Clone, Copy, PartialEq, Eq)]
 pub struct DefunctLock {
     pub lock: Lock,
     // replacement_lock_id
@@ -72,38 +74,33 @@ pub struct LockState {
     pub defuncts: usize,
 }
 
+#[tactic(auto, unfolding(crate::specs::Locks::is_vehicle))]
 pub fn is_vehicle(scope: ScopeKey) -> bool
     ensures { result ≡ is_vehicle scope }
 {
-    match scope {
-        ScopeKey::Vehicle => true,
-        ScopeKey::Ecu(_) => false,
-        ScopeKey::FunctionalGroup(_) => false,
-    }
+    matches!(scope, ScopeKey::Vehicle)
 }
 
+#[tactic(auto, unfolding(crate::specs::Locks::is_group))]
 pub fn is_group(scope: ScopeKey) -> bool
     ensures { result ≡ is_group scope }
 {
-    match scope {
-        ScopeKey::Vehicle => false,
-        ScopeKey::Ecu(_) => false,
-        ScopeKey::FunctionalGroup(_) => true,
-    }
+    matches!(scope, ScopeKey::FunctionalGroup(_))
 }
 
 // Whether the scope is one ECU and the coverage has it.
+#[tactic(auto, unfolding(crate::specs::Locks::ecu_in))]
 pub fn ecu_in(coverage: LockCoverage, scope: ScopeKey) -> bool
     ensures { result ≡ ecu_in coverage scope }
 {
     match scope {
-        ScopeKey::Vehicle => false,
         ScopeKey::Ecu(e) => coverage.contains_ecu(e),
-        ScopeKey::FunctionalGroup(_) => false,
+        _ => false,
     }
 }
 
-// A number for each scope, so that scopes compare as numbers: 0 for the vehicle.
+// A number for each scope, no two alike: 0 for the vehicle. rules marks the scopes that it saw by it.
+#[tactic(auto, unfolding(crate::specs::Locks::scope_code))]
 pub fn scope_code(scope: ScopeKey) -> u64
     ensures { result ≡ scope_code scope }
 {
@@ -117,9 +114,10 @@ pub fn scope_code(scope: ScopeKey) -> u64
 pub fn same_scope(a: ScopeKey, b: ScopeKey) -> bool
     ensures { result ≡ same_scope a b }
 {
-    scope_code(a) == scope_code(b)
+    a == b
 }
 
+// By hand: it shows each zero. By Default, LockId, LockCoverage and ScopeKey would derive it too, for no shorter call.
 pub fn blank_lock() -> Lock
     ensures { result ≡ blank_lock }
 {
@@ -140,6 +138,7 @@ pub fn blank_lock() -> Lock
     }
 }
 
+#[tactic(auto, unfolding(crate::specs::Locks::blank_active))]
 pub fn blank_active() -> ActiveLock
     ensures { result ≡ blank_active }
 {
@@ -151,6 +150,7 @@ pub fn blank_active() -> ActiveLock
     }
 }
 
+#[tactic(auto, unfolding(crate::specs::Locks::blank_defunct))]
 pub fn blank_defunct() -> DefunctLock
     ensures { result ≡ blank_defunct }
 {
@@ -197,12 +197,15 @@ pub fn normal_form(given: ActiveLock) -> ActiveLock
     }
 }
 
+// The same test of either kind of lock: one generic function would want a trait for the lock in each, and is no plainer.
+#[tactic(auto, unfolding(crate::specs::Locks::has_id, ids::specs::Order::same_id))]
 pub fn has_id(id: LockId, lock: ActiveLock) -> bool
     ensures { result ≡ has_id id lock }
 {
     ids::same(lock.lock.id, id)
 }
 
+#[tactic(auto, unfolding(crate::specs::Locks::has_id_d, ids::specs::Order::same_id))]
 pub fn has_id_defunct(id: LockId, broken: DefunctLock) -> bool
     ensures { result ≡ has_id_d id broken }
 {
@@ -226,5 +229,35 @@ impl LockState {
             defunct: [defunct; LockState::DEFUNCT],
             defuncts: 0,
         }
+    }
+
+    // The active locks, without the unused places. A count past the limit is taken as the limit.
+    pub fn active_locks(&self) -> &[ActiveLock]
+        ensures { result.now ≡ (model_of self.now).active }
+    {
+        &self.active[..self.actives.min(LockState::ACTIVE)]
+    }
+
+    pub fn defunct_locks(&self) -> &[DefunctLock]
+        ensures { result.now ≡ (model_of self.now).defunct }
+    {
+        &self.defunct[..self.defuncts.min(LockState::DEFUNCT)]
+    }
+
+    // The lock with the id.
+    // One of each, as the tests of their ids are (has_id).
+    pub fn find_active(&self, id: LockId) -> Option<ActiveLock>
+        ensures { result ≡ find (has_id id) (model_of self.now).active }
+    {
+        self.active_locks().iter().copied().find(|a| has_id(id, *a))
+    }
+
+    pub fn find_defunct(&self, id: LockId) -> Option<DefunctLock>
+        ensures { result ≡ find (has_id_d id) (model_of self.now).defunct }
+    {
+        self.defunct_locks()
+            .iter()
+            .copied()
+            .find(|d| has_id_defunct(id, *d))
     }
 }

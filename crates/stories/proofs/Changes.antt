@@ -1,10 +1,11 @@
 -- 02, C-20 on the lists, over any limits: what each operation that goes through leaves, and `step_kept`, all of a feed's
 -- operations in one, refused or not. Assumes nothing.
+use Rattle.std.specs.Option.{option_map}
 use mathlib.Core.Path.{◌≡◌, refl, sym, ap, ◌∙◌}
 use mathlib.Core.Bool.{Bool}
 use mathlib.Core.List.{List, map}
 use mathlib.Core.Option
-use mathlib.Core.Option.{Option, none, some}
+use Rattle.std.specs.Prelude.{Option, None, Some}
 use Prim.Native.Nat.{ℕ, ◌+◌}
 use lib.Dec.{eqb}
 use borrow.Author.Tests.{eq-eqb, ne_eqb}
@@ -19,8 +20,8 @@ use Rattle.state.specs.declared.DefunctLock.{DefunctLock}
 use Rattle.state.specs.Locks.{akey, dkey, has_id, has_id_d, normal}
 use Rattle.state.specs.Model.{Model, Limits}
 use Rattle.rules.specs.Rules.{find_a, sound}
-use Rattle.operations.specs.declared.answers.Renewal.{Renewal}
-use Rattle.operations.specs.declared.answers.Renewal.TheVariants as renewal
+use Rattle.std.specs.Prelude.{Result, Ok, Err, ⊤}
+use Rattle.operations.specs.declared.answers.RenewalRefusal.{RenewalRefusal}
 use Rattle.operations.specs.Answers.{is_done}
 use Rattle.operations.specs.Defuncts.{redirect, remove_d, remove_all, superseded, supersede}
 use Rattle.operations.specs.Trees.{is_listed}
@@ -53,9 +54,9 @@ extend_like i t has d a = cond_both (Like a) _ a (has_id i a) (λ u. (refl, refl
 map_held : (g : ActiveLock → ActiveLock) → ((a : ActiveLock) → Like a (g a)) → (l : List ActiveLock) (k : ℕ) → held_at (map g l) k ≡ held_at l k
 map_held g like l k = ap subject_in (find_map (λ a. eqb (akey a) k) g l (λ a. ap (λ (n : ℕ). eqb n k) (like a).0)) ∙ go (find_a l k)
   where
-    go : (o : Option ActiveLock) → subject_in (Option.map g o) ≡ subject_in o
-    go none = refl
-    go (some a) = ap {B = Option ℕ} some (like a).1
+    go : (o : Option ActiveLock) → subject_in (option_map g o) ≡ subject_in o
+    go None = refl
+    go (Some a) = ap {B = Option ℕ} Some (like a).1
 
 -- one that comes holds at its own id alone
 insert_held : (x : ActiveLock) (l : List ActiveLock) (k : ℕ) → (k ≡ akey x → ⊥) → held_at (insert_by akey x l) k ≡ held_at l k
@@ -130,13 +131,9 @@ module _ (i : LockId) (m : Model) (t : Yes (unnamed i m)) (x : ActiveLock) where
   vehicle_unnamed ws = →unnamed i (vehicle_in m x ws) (vehicle_holds _ _ (λ b a p q. tt) (redirect_unnamed i) m held x ws tt).defunct
 
 -- ---- all of a feed's operations, over any limits
-renewal_kept : (m n : Model) (a : Renewal) → Yes (keeps_stories m m) → Yes (keeps_stories m n) → Yes (keeps_stories m (after_renewal a m n))
-renewal_kept m n renewal.Done f g = g
-renewal_kept m n (renewal.ActiveLockNotFound i) f g = f
-renewal_kept m n renewal.RevisionOverflow f g = f
-renewal_kept m n renewal.LockExpired f g = f
-renewal_kept m n renewal.RenewalNotExtension f g = f
-renewal_kept m n (renewal.UnsoundState r) f g = f
+renewal_kept : (m n : Model) (a : Result ⊤ RenewalRefusal) → Yes (keeps_stories m m) → Yes (keeps_stories m n) → Yes (keeps_stories m (after_renewal a m n))
+renewal_kept m n (Ok done) f g = g
+renewal_kept m n (Err why) f g = f
 
 module _ (k : Limits) (m : Model) (s : Yes (sound k m)) where
   core : Core m

@@ -28,8 +28,8 @@ use Rattle.state.specs.Locks.{dkey, is_vehicle, is_group, ecu_in, scope_code, sa
 use Rattle.state.specs.Model.{Model, fits, empty_model, model_of, state_of}
 use Rattle.rules.specs.Rules.{zero_id, zero_set, zero_lock, is_blank_a, is_blank_d, blanks, in_order, neat_l, neat_a, neat_d, neat, rule0, rule1, rule2, rule3, rule4, rule5, rule6, rule7, clash, rule8, meets_none, rule9, broken_rule, sound}
 use Rattle.lookups.specs.Reads.{on_sound, on_scope, narrow, covers_defunct, held, walk, holder_of}
-use Rattle.operations.specs.declared.answers.Acknowledgement.TheVariants as acknowledgement
-use Rattle.operations.specs.declared.answers.DefunctExpiry.TheVariants as expiry
+use Rattle.std.specs.Prelude.{Err}
+use Rattle.operations.specs.declared.answers.StateRefusal.TheVariants.{RevisionOverflow}
 use Rattle.operations.specs.Answers.{is_done, refuse_if, and_then}
 use Rattle.operations.specs.Defuncts.{redirect, other, remove_d, superseded, supersede, to_defunct}
 use Rattle.operations.specs.Trees.{child_of, in_tree, tree_parts, root_parts, roots_parts}
@@ -116,8 +116,8 @@ pub record Computed : Type 0 where
   acknowledged : (told (step_on two (acknowledge (id_of 2))) ≡ 1 ∷ 3 ∷ 0 ∷ []) × (claim two (acknowledge (id_of 2)) ≡ true)
   expired : (told (step_on two (expire_defunct 100)) ≡ 1 ∷ 3 ∷ 0 ∷ []) × (claim two (expire_defunct 100) ≡ true)
   first_gone : (told (step_on two (acknowledge (id_of 1))) ≡ 2 ∷ 3 ∷ 0 ∷ []) × (claim two (acknowledge (id_of 1)) ≡ true)
-  last_revision_lem : ((acknowledge_on last (id_of 2)).told ≡ acknowledgement.RevisionOverflow) × (told (step_on last (acknowledge (id_of 2))) ≡ 1 ∷ 3 ∷ 0 ∷ []) × (claim last (acknowledge (id_of 2)) ≡ true)
-  last_expiry : ((expire_defunct_on last 100).told.answer ≡ expiry.RevisionOverflow) × (told (step_on last (expire_defunct 100)) ≡ 1 ∷ 3 ∷ 0 ∷ []) × (claim last (expire_defunct 100) ≡ true)
+  last_revision_lem : ((acknowledge_on last (id_of 2)).told ≡ Err RevisionOverflow) × (told (step_on last (acknowledge (id_of 2))) ≡ 1 ∷ 3 ∷ 0 ∷ []) × (claim last (acknowledge (id_of 2)) ≡ true)
+  last_expiry : ((expire_defunct_on last 100).told.answer ≡ Err RevisionOverflow) × (told (step_on last (expire_defunct 100)) ≡ 1 ∷ 3 ∷ 0 ∷ []) × (claim last (expire_defunct 100) ≡ true)
   said : deeds_stated spare clearing ≡ true
   fed : (deeds_stated spare (asking 22 0 2 ∷ asking 19 5 3 ∷ []) ≡ true) × (deeds_stated spare (asking 19 0 3 ∷ []) ≡ false)
   inserted : (told (step_on two over) ≡ 1 ∷ 3 ∷ 0 ∷ []) × (stated over (model_of (step_on two over)) ≡ true) × (claim two over ≡ true)

@@ -3,7 +3,9 @@
 use mathlib.Core.Path.{◌≡◌, refl, sym, ap, subst, ◌∙◌}
 use mathlib.Core.Bool.{true, false≢true}
 use mathlib.Core.List.{List, [], ◌∷◌}
-use mathlib.Core.Option.{Option, none, some, map, none-ne-some, some-injective}
+use Rattle.std.specs.Prelude.{Option, None, Some}
+use Rattle.std.specs.Option.{option_map}
+use Rattle.lists.proofs.Options.{None_ne_Some, Some_injective}
 use mathlib.Core.Logic.{inl}
 use Prim.Native.Nat.{ℕ}
 use native.Mathlib.Omega.{arith}
@@ -22,7 +24,8 @@ use Rattle.state.specs.Locks.{akey, dkey, has_id_d}
 use Rattle.state.specs.Model.{Model}
 use Rattle.rules.specs.Rules.{find_a, find_d, rule9}
 use Rattle.rules.proofs.Ends.{rule9_of_ends}
-use Rattle.lookups.specs.Reads.{Held, holder_of}
+use Rattle.lookups.specs.declared.Holder.{Holder}
+use Rattle.lookups.specs.Reads.{holder_of}
 use Rattle.operations.specs.Defuncts.{redirect, drop_entry, drop_found, remove_d, remove_all}
 use Rattle.promises.proofs.Core.{Core}
 use Rattle.promises.proofs.Going.{drop_gone, drop_kept, found_own, remove_d_shrinks}
@@ -33,12 +36,12 @@ use Rattle.stories.proofs.Ways.{held_at, drop_story, active_story}
 
 -- ---- every entry that is found after was found before, and its story is the same
 abbrev pub Keeps : Model → Model → Type 0
-Keeps m n = (k : ℕ) (e : DefunctLock) → find_d n.defunct k ≡ some e → (d : DefunctLock) × (find_d m.defunct k ≡ some d) × Yes (same_story (holder_of m d) (holder_of n e))
+Keeps m n = (k : ℕ) (e : DefunctLock) → find_d n.defunct k ≡ Some e → (d : DefunctLock) × (find_d m.defunct k ≡ Some d) × Yes (same_story (holder_of m d) (holder_of n e))
 
 -- in an ascending list that is the test
-story_was : (m n : Model) (e : DefunctLock) (o : Option DefunctLock) → Yes (keeps_story m n e o) → (d : DefunctLock) × (o ≡ some d) × Yes (same_story (holder_of m d) (holder_of n e))
-story_was m n e none t = absurd (false≢true t)
-story_was m n e (some d) t = (d, refl, t)
+story_was : (m n : Model) (e : DefunctLock) (o : Option DefunctLock) → Yes (keeps_story m n e o) → (d : DefunctLock) × (o ≡ Some d) × Yes (same_story (holder_of m d) (holder_of n e))
+story_was m n e None t = absurd (false≢true t)
+story_was m n e (Some d) t = (d, refl, t)
 
 pub keeps→ : (m n : Model) → Yes (keeps_stories m n) → Keeps m n
 unfolding keeps_stories
@@ -54,11 +57,11 @@ unfolding keeps_stories
     rw z.1 z.2)
 
 -- ---- nothing changes; one change after the other
-same_refl : (h : Held) → Yes (same_story h h)
+same_refl : (h : Holder) → Yes (same_story h h)
 unfolding same_story
 same_refl h = and_i _ _ (eq-eqb h.subject h.subject refl) (le-leb h.links h.links (omega arith))
 
-same_trans : (h i j : Held) → Yes (same_story h i) → Yes (same_story i j) → Yes (same_story h j)
+same_trans : (h i j : Holder) → Yes (same_story h i) → Yes (same_story i j) → Yes (same_story h j)
 unfolding same_story
 same_trans h i j s t =
     and_i _ _ (eq-eqb j.subject h.subject (eqb-true j.subject i.subject (and_l _ _ t) ∙ eqb-true i.subject h.subject (and_l _ _ s)))
@@ -78,15 +81,15 @@ nine : (m : Model) → Core m → rule9 m ≡ true
 nine m c = rule9_of_ends m (λ d u. c.ends (dkey d))
 
 -- ---- an entry goes; with any revision, as at the last one it is the same
-found_was : (e d : DefunctLock) (o : Option DefunctLock) → map (redirect e) o ≡ some d → (b : DefunctLock) × (o ≡ some b) × (redirect e b ≡ d)
-found_was e d none q = absurd (none-ne-some d q)
-found_was e d (some b) q = (b, refl, some-injective _ _ q)
+found_was : (e d : DefunctLock) (o : Option DefunctLock) → option_map (redirect e) o ≡ Some d → (b : DefunctLock) × (o ≡ Some b) × (redirect e b ≡ d)
+found_was e d None q = absurd (None_ne_Some d q)
+found_was e d (Some b) q = (b, refl, Some_injective _ _ q)
 
 module _ (m : Model) (c : Core m) (r : ℕ) where
-  drop_keeps : (e : DefunctLock) → find_d m.defunct (dkey e) ≡ some e → rule9 (made r m.active (drop_entry e m.defunct)) ≡ true → Keeps m (made r m.active (drop_entry e m.defunct))
+  drop_keeps : (e : DefunctLock) → find_d m.defunct (dkey e) ≡ Some e → rule9 (made r m.active (drop_entry e m.defunct)) ≡ true → Keeps m (made r m.active (drop_entry e m.defunct))
   drop_keeps e at p k d f =
       elim (ℕ_discrete k (dkey e)) [
-        | yes q ↦ absurd (none-ne-some d (sym (drop_gone e m.defunct k q) ∙ f))
+        | yes q ↦ absurd (None_ne_Some d (sym (drop_gone e m.defunct k q) ∙ f))
         | no q ↦
             let w = found_was e d (find_d m.defunct k) (sym (drop_kept e m.defunct k q) ∙ f) in (
               w.0,
@@ -96,7 +99,7 @@ module _ (m : Model) (c : Core m) (r : ℕ) where
             )
       ]
     where
-      off : find_a m.active (dkey e) ≡ none
+      off : find_a m.active (dkey e) ≡ None
       off = find_miss _ m.active (λ a u t. c.apart a u e (find→ _ m.defunct at).0 (sym (eqb-true (akey a) (dkey e) t)))
 
       self : key e.target ≡ dkey e → ⊥
@@ -116,8 +119,8 @@ unfolding remove_d
 remove_keeps m c r i = go (find (has_id_d i) m.defunct) refl (nine _ (core_shed m (remove_d i m.defunct) r c (remove_d_shrinks i m.defunct)))
   where
     go : (o : Option DefunctLock) → find (has_id_d i) m.defunct ≡ o → rule9 (made r m.active (drop_found o m.defunct)) ≡ true → Keeps m (made r m.active (drop_found o m.defunct))
-    go none q p = revision_keeps m c r
-    go (some e) q p = drop_keeps m c r e (found_own i m.defunct e q).1 p
+    go None q p = revision_keeps m c r
+    go (Some e) q p = drop_keeps m c r e (found_own i m.defunct e q).1 p
 
 pub remove_all_keeps : (ds : List DefunctLock) (m : Model) → Core m → (r : ℕ) → Keeps m (made r m.active (remove_all ds m.defunct))
 remove_all_keeps [] m c r = revision_keeps m c r

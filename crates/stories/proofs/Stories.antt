@@ -19,12 +19,11 @@ use Rattle.state.specs.declared.LockState.{LockState}
 use Rattle.state.specs.Locks.{normal}
 use Rattle.state.specs.Model.{Model, model_of, state_of, full}
 use Rattle.state.proofs.Laws.{model-of-state}
-use Rattle.rules.specs.declared.Verdict.TheVariants.{Sound}
+use Rattle.std.specs.Prelude.{Result, Ok, ⊤}
 use Rattle.rules.specs.Rules.{broken_rule}
 use Rattle.rules.proofs.Sound.{sound_of}
-use Rattle.operations.specs.declared.answers.Answer.{Answer}
-use Rattle.operations.specs.declared.answers.Answer.TheVariants.{Done}
-use Rattle.operations.specs.declared.answers.Inserted.{Inserted}
+use Rattle.operations.specs.declared.answers.Refusal.{Refusal}
+use Rattle.operations.specs.Answers.{Inserted}
 use Rattle.operations.specs.Insert.{inserted_in, inserted, insert_active_on}
 use Rattle.operations.specs.Vehicle.{vehicle_in, insert_vehicle_on}
 use Rattle.operations.specs.Renew.{renew_on}
@@ -41,7 +40,7 @@ use Rattle.stories.proofs.Changes.{unchanged_kept, removed_kept, all_removed_kep
 in_state : (P : Model → Type 0) (n : Model) → P n → P (model_of (state_of n))
 in_state P n = subst P (sym (model-of-state n))
 
-module _ (s : LockState) (e : broken_rule s ≡ Sound) where
+module _ (s : LockState) (e : broken_rule s ≡ Ok tt) where
   core : Core (model_of s)
   core = (stands_of full (model_of s) (sound_of s e)).core
 
@@ -65,7 +64,7 @@ module _ (s : LockState) (e : broken_rule s ≡ Sound) where
 
   -- ---- "For insertion it is stated only where, after it, no remaining entry names the new id as its replacement"
   -- of either insertion: r is what it comes to, n the lists that it leaves where it goes through
-  module _ (y : ActiveLock) (n : Model) (r : Inserted) (comes : (P : Inserted → Type 0) → ((b : Answer) → P (inserted b s)) → P (inserted Done (state_of n)) → P r)
+  module _ (y : ActiveLock) (n : Model) (r : Inserted) (comes : (P : Inserted → Type 0) → ((b : Result ⊤ Refusal) → P (inserted b s)) → P (inserted (Ok tt) (state_of n)) → P r)
       (kept : Yes (unnamed y.lock.id n) → Tells n) where
     put_story : Yes (unnamed y.lock.id (model_of r.state)) → StoriesKept s r.state
     put_story = comes (λ q. Yes (unnamed y.lock.id (model_of q.state)) → StoriesKept s q.state) (λ b t. stays) (in_state (λ m. Yes (unnamed y.lock.id m) → Tells m) n kept)
@@ -74,7 +73,7 @@ module _ (s : LockState) (e : broken_rule s ≡ Sound) where
     put_new_story : Yes (unnamed y.lock.id (model_of s)) → Yes (unnamed y.lock.id n) → StoriesKept s r.state
     put_new_story t u = put_story (comes (λ q. Yes (unnamed y.lock.id (model_of q.state))) (λ b. t) (in_state (λ m. Yes (unnamed y.lock.id m)) n u))
 
-  inserts : (y : ActiveLock) (P : Inserted → Type 0) → ((b : Answer) → P (inserted b s)) → P (inserted Done (state_of (inserted_in (model_of s) (normal y)))) → P (insert_active_on s y)
+  inserts : (y : ActiveLock) (P : Inserted → Type 0) → ((b : Result ⊤ Refusal) → P (inserted b s)) → P (inserted (Ok tt) (state_of (inserted_in (model_of s) (normal y)))) → P (insert_active_on s y)
   inserts y P f g = insert_active_comes P s y (λ b n. f b) (λ d a. g)
 
   pub insert_story : (y : ActiveLock) → Yes (unnamed y.lock.id (model_of (insert_active_on s y).state)) → StoriesKept s (insert_active_on s y).state
@@ -85,7 +84,7 @@ module _ (s : LockState) (e : broken_rule s ≡ Sound) where
   unfolding normal
   insert_new_story y t = put_new_story y _ (insert_active_on s y) (inserts y) (inserted_kept (model_of s) core (normal y)) t (inserted_unnamed y.lock.id (model_of s) t (normal y))
 
-  inserts_vehicle : (y : ActiveLock) (ws : List ℕ) (P : Inserted → Type 0) → ((b : Answer) → P (inserted b s)) → P (inserted Done (state_of (vehicle_in (model_of s) (normal y) ws))) → P (insert_vehicle_on s y ws)
+  inserts_vehicle : (y : ActiveLock) (ws : List ℕ) (P : Inserted → Type 0) → ((b : Result ⊤ Refusal) → P (inserted b s)) → P (inserted (Ok tt) (state_of (vehicle_in (model_of s) (normal y) ws))) → P (insert_vehicle_on s y ws)
   inserts_vehicle y ws P f g = insert_vehicle_comes P s y ws (λ b n. f b) (λ d a. g)
 
   pub vehicle_story : (y : ActiveLock) (ws : List ℕ) → Yes (unnamed y.lock.id (model_of (insert_vehicle_on s y ws).state)) → StoriesKept s (insert_vehicle_on s y ws).state

@@ -5,7 +5,9 @@
 use mathlib.Core.Path.{◌≡◌, refl, sym, ap, subst, ◌∙◌}
 use mathlib.Core.Bool.{true}
 use mathlib.Core.List.{List, [], ◌∷◌}
-use mathlib.Core.Option.{Option, none, some, map, none-ne-some, some-ne-none, some-injective}
+use Rattle.std.specs.Prelude.{Option, None, Some}
+use Rattle.std.specs.Option.{option_map}
+use Rattle.lists.proofs.Options.{None_ne_Some, Some_ne_None, Some_injective}
 use Prim.Native.Nat.{ℕ, ◌≤◌}
 use native.Mathlib.Omega.{arith}
 use native.Mathlib.Decide.{ℕ_discrete}
@@ -45,7 +47,7 @@ same_by m n p q d e f =
     and_i _ _ (eq-eqb _ _ x.1) (le-leb (holder_of n e).links (holder_of m d).links (omega (arith, x.0, w.count, z.2)))
 
 -- ---- the entry e goes, which no active lock has the id of and which doesn't point at itself
-module _ (m : Model) (r : ℕ) (e : DefunctLock) (at : find_d m.defunct (dkey e) ≡ some e) (off : find_a m.active (dkey e) ≡ none) (self : key e.target ≡ dkey e → ⊥) where
+module _ (m : Model) (r : ℕ) (e : DefunctLock) (at : find_d m.defunct (dkey e) ≡ Some e) (off : find_a m.active (dkey e) ≡ None) (self : key e.target ≡ dkey e → ⊥) where
   abbrev left : Model
   left = made r m.active (drop_entry e m.defunct)
 
@@ -62,15 +64,15 @@ module _ (m : Model) (r : ℕ) (e : DefunctLock) (at : find_d m.defunct (dkey e)
   -- from another id than e's, and from e's id, where the way now begins at e's target
   past : {k h u : ℕ} {ds : List DefunctLock} → Follows m k h ds u
       → ((k ≡ dkey e → ⊥) → Within left k h ds u) × (k ≡ dkey e → Within left (key e.target) e.holder ds u)
-  past {k} (holds {a = a} f s) = (λ q. ([], holds f s, omega arith), λ q. absurd (none-ne-some a (sym off ∙ ap (find_a m.active) (sym q) ∙ f)))
-  past {k} (leads f g s) = (λ q. ([], leads f (drop_out e m.defunct at k g) s, omega arith), λ q. absurd (none-ne-some e (sym g ∙ ap (find_d m.defunct) q ∙ at)))
+  past {k} (holds {a = a} f s) = (λ q. ([], holds f s, omega arith), λ q. absurd (None_ne_Some a (sym off ∙ ap (find_a m.active) (sym q) ∙ f)))
+  past {k} (leads f g s) = (λ q. ([], leads f (drop_out e m.defunct at k g) s, omega arith), λ q. absurd (None_ne_Some e (sym g ∙ ap (find_d m.defunct) q ∙ at)))
   past {k} {h} {u} (passes {d = d} {ds = ds} f g w) =
       let p = past w in (
         λ q.
             let z = turned d ds u p.0 p.1 in
-            (redirect e d ∷ z.0, passes f (drop_kept e m.defunct k q ∙ ap (map (redirect e)) g) z.1, omega (arith, z.2)),
+            (redirect e d ∷ z.0, passes f (drop_kept e m.defunct k q ∙ ap (option_map (redirect e)) g) z.1, omega (arith, z.2)),
         λ q.
-            let o = some-injective d e (sym g ∙ ap (find_d m.defunct) q ∙ at) in
+            let o = Some_injective d e (sym g ∙ ap (find_d m.defunct) q ∙ at) in
             let z = subst (λ (x : DefunctLock). Within left (key x.target) x.holder ds u) o (p.0 (λ v. self (ap (λ (x : DefunctLock). key x.target) (sym o) ∙ v))) in
             (z.0, z.1, omega (arith, z.2)),
       )
@@ -82,19 +84,19 @@ module _ (m : Model) (r : ℕ) (e : DefunctLock) (at : find_d m.defunct (dkey e)
 -- ---- the active locks become l
 -- who holds at the id k, where someone does
 abbrev pub subject_in : Option ActiveLock → Option ℕ
-subject_in none = none
-subject_in (some a) = some a.lock.subject
+subject_in None = None
+subject_in (Some a) = Some a.lock.subject
 
 abbrev pub held_at : List ActiveLock → ℕ → Option ℕ
 held_at l k = subject_in (find_a l k)
 
-like_none : (o p : Option ActiveLock) → subject_in o ≡ subject_in p → p ≡ none → o ≡ none
-like_none none p q e = refl
-like_none (some b) p q e = absurd (some-ne-none b.lock.subject (q ∙ ap subject_in e))
+like_none : (o p : Option ActiveLock) → subject_in o ≡ subject_in p → p ≡ None → o ≡ None
+like_none None p q e = refl
+like_none (Some b) p q e = absurd (Some_ne_None b.lock.subject (q ∙ ap subject_in e))
 
-like_some : (o p : Option ActiveLock) (a : ActiveLock) → subject_in o ≡ subject_in p → p ≡ some a → (b : ActiveLock) × (o ≡ some b) × (b.lock.subject ≡ a.lock.subject)
-like_some none p a q e = absurd (none-ne-some a.lock.subject (q ∙ ap subject_in e))
-like_some (some b) p a q e = (b, refl, some-injective _ _ (q ∙ ap subject_in e))
+like_some : (o p : Option ActiveLock) (a : ActiveLock) → subject_in o ≡ subject_in p → p ≡ Some a → (b : ActiveLock) × (o ≡ Some b) × (b.lock.subject ≡ a.lock.subject)
+like_some None p a q e = absurd (None_ne_Some a.lock.subject (q ∙ ap subject_in e))
+like_some (Some b) p a q e = (b, refl, Some_injective _ _ (q ∙ ap subject_in e))
 
 -- at every entry's target the same subject holds, so the way is the same
 module _ (m : Model) (r : ℕ) (l : List ActiveLock) (like : (d : DefunctLock) → Mem d m.defunct → held_at l (key d.target) ≡ held_at m.active (key d.target)) where

@@ -4,9 +4,8 @@ use Rattle.std.specs.Prelude.{◌≡◌, ℕ, ◌≤◌}
 use Rattle.ids.specs.declared.LockId.{LockId}
 use Rattle.state.specs.declared.DefunctLock.{DefunctLock}
 use Rattle.state.specs.declared.LockState.{LockState}
-use Rattle.lookups.specs.declared.FoundDefunct.TheVariants as defunct
-use Rattle.lookups.specs.declared.Holder.TheVariants as holder
-use Rattle.lookups.specs.Reads.{defunct_by_id_on, current_holder_on}
+use Rattle.std.specs.Prelude.{Ok, Some}
+use Rattle.lookups.specs.Reads.{defunct_by_id_on, held, current_holder_on}
 
 -- the entry that is found by the id after, and the one that was found before
 pub record ToldAgain (before after : LockState) (id : LockId) (entry : DefunctLock) : Type 0 where
@@ -14,11 +13,11 @@ pub record ToldAgain (before after : LockState) (id : LockId) (entry : DefunctLo
   pub subject : ℕ
   pub links : ℕ
   pub links_again : ℕ
-  pub found : defunct_by_id_on before id ≡ defunct.Lock was
-  pub told : current_holder_on before was ≡ holder.Held subject links
-  pub again : current_holder_on after entry ≡ holder.Held subject links_again
+  pub found : defunct_by_id_on before id ≡ Ok (Some was)
+  pub told : current_holder_on before was ≡ Ok (held subject links)
+  pub again : current_holder_on after entry ≡ Ok (held subject links_again)
   pub fall : links_again ≤ links
 
 -- of every id by which an entry is still found
 abbrev pub ToldTheSame : LockState → LockState → Type 0
-ToldTheSame before after = (id : LockId) (entry : DefunctLock) → defunct_by_id_on after id ≡ defunct.Lock entry → ToldAgain before after id entry
+ToldTheSame before after = (id : LockId) (entry : DefunctLock) → defunct_by_id_on after id ≡ Ok (Some entry) → ToldAgain before after id entry

@@ -6,19 +6,21 @@ use Rattle.lists.specs.Tests.{◌and◌, ◌imp◌}
 use Rattle.state.specs.Model.{Model, model_of}
 use Rattle.promises.specs.Results.{op_of}
 use Rattle.image.specs.declared.Spare.{Spare}
-use Rattle.feed.specs.declared.taking.Taken.{Taken}
-use Rattle.feed.specs.declared.taking.Taken.TheVariants as taken
+use Rattle.std.specs.Prelude.{Result, Ok, Err}
+use Rattle.records.specs.declared.frame.Unread.{Unread}
+use Rattle.records.specs.declared.frame.Unread.TheVariants.{Torn, BadKind, BadField}
+use Rattle.feed.specs.declared.taking.Placed.{Placed}
 use Rattle.feed.specs.Feed.{distance, numbered, body_in, taken_at, step_on}
 use Rattle.feed.specs.Runs.{stops}
 use Rattle.takeover.specs.Deeds.{Deed, operation, delete_defunct, feeding, deed_on}
 use Rattle.stories.specs.Stories.{stated}
 
 -- of what a record in turn asks for; one out of turn, or one that can't be read, changes nothing
-abbrev pub taken_stated : Spare → List ℕ → Taken → Model → Bool
-taken_stated spare bytes (taken.Torn at) after = true
-taken_stated spare bytes (taken.BadKind at) after = true
-taken_stated spare bytes (taken.BadField at) after = true
-taken_stated spare bytes (taken.Record p) after =
+abbrev pub taken_stated : Spare → List ℕ → Result Placed Unread → Model → Bool
+taken_stated spare bytes (Err (Torn at)) after = true
+taken_stated spare bytes (Err (BadKind at)) after = true
+taken_stated spare bytes (Err (BadField at)) after = true
+taken_stated spare bytes (Ok p) after =
     eqb (distance p.sequence spare.expected) 0 imp stated (op_of p.request (numbered p (body_in bytes p.frame)).list) after
 
 unfoldable pub deed_stated : Spare → Deed → Model → Bool

@@ -2,7 +2,7 @@
 -- holds now, through how many entries. All of it tests, run on examples in proofs/Examples.antt. Assumes nothing.
 --     before, after   the lists before and after an operation
 use Rattle.std.specs.Prelude.{Bool, true, false, eqb, leb}
-use Rattle.std.proofs.Math.Option.{Option, none, some}
+use Rattle.std.specs.Prelude.{Option, None, Some}
 use Rattle.lists.specs.Tests.{◌and◌, non, Yes}
 use Rattle.lists.specs.Lists.{all}
 use Rattle.ids.specs.declared.LockId.{LockId}
@@ -12,18 +12,19 @@ use Rattle.state.specs.declared.LockState.{LockState}
 use Rattle.state.specs.Locks.{dkey}
 use Rattle.state.specs.Model.{Model, model_of}
 use Rattle.rules.specs.Rules.{find_d}
-use Rattle.lookups.specs.Reads.{Held, holder_of}
+use Rattle.lookups.specs.declared.Holder.{Holder}
+use Rattle.lookups.specs.Reads.{holder_of}
 use Rattle.promises.specs.Steps.{Op, insert_active, insert_vehicle, renew, delete, begin_expiration, commit_replacement, acknowledge, expire_defunct}
 
 -- ---- "the same current holder as before. The number of entries passed may only fall."
-unfoldable pub same_story : Held → Held → Bool
+unfoldable pub same_story : Holder → Holder → Bool
 same_story told again = eqb again.subject told.subject and leb again.links told.links
 
 -- ---- "for every remaining entry": there was one with its id, and that one's story is the same. Each is asked as it stands
 -- in its own state, since an entry that pointed at a gone one has taken over its target and holder
 abbrev pub keeps_story : Model → Model → DefunctLock → Option DefunctLock → Bool
-keeps_story before after entry none = false
-keeps_story before after entry (some was) = same_story (holder_of before was) (holder_of after entry)
+keeps_story before after entry None = false
+keeps_story before after entry (Some was) = same_story (holder_of before was) (holder_of after entry)
 
 unfoldable pub keeps_stories : Model → Model → Bool
 keeps_stories before after = all (λ entry. keeps_story before after entry (find_d before.defunct (dkey entry))) after.defunct

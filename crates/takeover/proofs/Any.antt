@@ -11,8 +11,9 @@ use lib.Dec.{eqb}
 use borrow.Author.Tests.{eq-eqb, ne_eqb, eqb-true, eqb-false}
 use Rattle.lists.proofs.Tests.{cond_true, cond_false, cond_both}
 use Rattle.state.specs.declared.LockState.{LockState}
-use Rattle.rules.specs.declared.Verdict.{Verdict}
-use Rattle.rules.specs.declared.Verdict.TheVariants.{Sound, Broken}
+use Rattle.std.specs.Prelude.{Result, Ok, Err, ⊤}
+use Rattle.rules.specs.declared.Unsound.{Unsound}
+use Rattle.rules.specs.declared.Unsound.TheVariants.{Rule}
 use Rattle.rules.specs.Rules.{broken_rule}
 use Rattle.lookups.specs.Reads.{by_verdict, on_sound}
 use Rattle.image.specs.declared.Spare.{Spare}
@@ -39,43 +40,43 @@ module _ {X : Type 0} (number : X → ℕ) (act : X → LockState → LockState)
     abbrev turned : Spare
     turned = cond (eqb (distance (number x) sp.expected) 0) (moved (act x sp.state) sp) sp
 
-    pub fed_sound : broken_rule sp.state ≡ Sound → fed number act sp x ≡ turned
+    pub fed_sound : broken_rule sp.state ≡ Ok tt → fed number act sp x ≡ turned
     unfolding fed on_sound
-    fed_sound e = ap (λ (v : Verdict). by_verdict v (λ n. sp) turned) e
+    fed_sound e = ap (λ (v : Result ⊤ Unsound). by_verdict v (λ n. sp) turned) e
 
-    fed_unsound : (n : ℕ) → broken_rule sp.state ≡ Broken n → fed number act sp x ≡ sp
+    fed_unsound : (n : ℕ) → broken_rule sp.state ≡ Err (Rule n) → fed number act sp x ≡ sp
     unfolding fed on_sound
-    fed_unsound n e = ap (λ (v : Verdict). by_verdict v (λ k. sp) turned) e
+    fed_unsound n e = ap (λ (v : Result ⊤ Unsound). by_verdict v (λ k. sp) turned) e
 
     -- in turn, and out of turn
-    pub fed_due : broken_rule sp.state ≡ Sound → distance (number x) sp.expected ≡ 0 → (fed number act sp x).expected ≡ after sp.expected
+    pub fed_due : broken_rule sp.state ≡ Ok tt → distance (number x) sp.expected ≡ 0 → (fed number act sp x).expected ≡ after sp.expected
     fed_due e h = ap (λ (y : Spare). y.expected) (fed_sound e ∙ cond_true _ _ _ (eq-eqb _ _ h))
 
     pub fed_other : (distance (number x) sp.expected ≡ 0 → ⊥) → fed number act sp x ≡ sp
     fed_other h = go (broken_rule sp.state) refl
       where
-        go : (v : Verdict) → broken_rule sp.state ≡ v → fed number act sp x ≡ sp
-        go Sound e = fed_sound e ∙ cond_false _ _ _ (ne_eqb _ _ h)
-        go (Broken n) e = fed_unsound n e
+        go : (v : Result ⊤ Unsound) → broken_rule sp.state ≡ v → fed number act sp x ≡ sp
+        go (Ok tt) e = fed_sound e ∙ cond_false _ _ _ (ne_eqb _ _ h)
+        go (Err (Rule n)) e = fed_unsound n e
 
   -- ---- an acting that keeps a state sound
-  module _ (keeps : (x : X) (s : LockState) → broken_rule s ≡ Sound → broken_rule (act x s) ≡ Sound) where
-    pub fed_keeps : (sp : Spare) (x : X) → broken_rule sp.state ≡ Sound → broken_rule (fed number act sp x).state ≡ Sound
+  module _ (keeps : (x : X) (s : LockState) → broken_rule s ≡ Ok tt → broken_rule (act x s) ≡ Ok tt) where
+    pub fed_keeps : (sp : Spare) (x : X) → broken_rule sp.state ≡ Ok tt → broken_rule (fed number act sp x).state ≡ Ok tt
     fed_keeps sp x e =
         ap (λ (y : Spare). broken_rule y.state) (fed_sound sp x e)
-        ∙ cond_both (λ (y : Spare). broken_rule y.state ≡ Sound) _ _ (eqb (distance (number x) sp.expected) 0) (λ t. keeps x sp.state e) (λ t. e)
+        ∙ cond_both (λ (y : Spare). broken_rule y.state ≡ Ok tt) _ _ (eqb (distance (number x) sp.expected) 0) (λ t. keeps x sp.state e) (λ t. e)
 
-    all_unsound : (sp : Spare) (n : ℕ) → broken_rule sp.state ≡ Broken n → (xs : List X) → fed_all number act sp xs ≡ sp
+    all_unsound : (sp : Spare) (n : ℕ) → broken_rule sp.state ≡ Err (Rule n) → (xs : List X) → fed_all number act sp xs ≡ sp
     unfolding fed_all
     all_unsound sp n e [] = refl
     all_unsound sp n e (x ∷ xs) = ap (λ (y : Spare). fed_all number act y xs) (fed_unsound sp x n e) ∙ all_unsound sp n e xs
 
-    all_sound : (sp : Spare) → broken_rule sp.state ≡ Sound → (xs : List X) → fed_all number act sp xs ≡ fed_all number act sp (in_turn number sp.expected xs)
+    all_sound : (sp : Spare) → broken_rule sp.state ≡ Ok tt → (xs : List X) → fed_all number act sp xs ≡ fed_all number act sp (in_turn number sp.expected xs)
     unfolding fed_all in_turn
     all_sound sp e [] = refl
     all_sound sp e (x ∷ xs) = go (λ sq f. all_sound sq f xs) (eqb (distance (number x) sp.expected) 0) refl
       where
-        go : ((sq : Spare) → broken_rule sq.state ≡ Sound → fed_all number act sq xs ≡ fed_all number act sq (in_turn number sq.expected xs)) → (b : Bool) → eqb (distance (number x) sp.expected) 0 ≡ b
+        go : ((sq : Spare) → broken_rule sq.state ≡ Ok tt → fed_all number act sq xs ≡ fed_all number act sq (in_turn number sq.expected xs)) → (b : Bool) → eqb (distance (number x) sp.expected) 0 ≡ b
             → fed_all number act (fed number act sp x) xs ≡ fed_all number act sp (cond b (x ∷ in_turn number (after sp.expected) xs) (in_turn number sp.expected xs))
         go rest true t = rest (fed number act sp x) (fed_keeps sp x e) ∙ ap (λ (k : ℕ). fed_all number act (fed number act sp x) (in_turn number k xs)) (fed_due sp x e (eqb-true _ _ t))
         go rest false t = ap (λ (y : Spare). fed_all number act y xs) (fed_other sp x (eqb-false _ _ t)) ∙ rest sp e
@@ -83,15 +84,15 @@ module _ {X : Type 0} (number : X → ℕ) (act : X → LockState → LockState)
     pub only_in_turn : (sp : Spare) (xs : List X) → fed_all number act sp xs ≡ fed_all number act sp (in_turn number sp.expected xs)
     only_in_turn sp xs = go (broken_rule sp.state) refl
       where
-        go : (v : Verdict) → broken_rule sp.state ≡ v → fed_all number act sp xs ≡ fed_all number act sp (in_turn number sp.expected xs)
-        go Sound e = all_sound sp e xs
-        go (Broken n) e = all_unsound sp n e xs ∙ sym (all_unsound sp n e (in_turn number sp.expected xs))
+        go : (v : Result ⊤ Unsound) → broken_rule sp.state ≡ v → fed_all number act sp xs ≡ fed_all number act sp (in_turn number sp.expected xs)
+        go (Ok tt) e = all_sound sp e xs
+        go (Err (Rule n)) e = all_unsound sp n e xs ∙ sym (all_unsound sp n e (in_turn number sp.expected xs))
 
     pub takeover : (sp : Spare) (xs ys : List X) → Mixed number sp.expected xs ys → fed_all number act sp ys ≡ fed_all number act sp xs
     takeover sp xs ys m = only_in_turn sp ys ∙ ap (fed_all number act sp) (mixed_both number m)
 
     -- every state met on the way is sound
-    pub all_keep : (sp : Spare) (xs : List X) → broken_rule sp.state ≡ Sound → broken_rule (fed_all number act sp xs).state ≡ Sound
+    pub all_keep : (sp : Spare) (xs : List X) → broken_rule sp.state ≡ Ok tt → broken_rule (fed_all number act sp xs).state ≡ Ok tt
     unfolding fed_all
     all_keep sp [] e = e
     all_keep sp (x ∷ xs) e = all_keep (fed number act sp x) xs (fed_keeps sp x e)

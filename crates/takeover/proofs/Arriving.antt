@@ -12,7 +12,7 @@ use native.Mathlib.Omega.{arith}
 use lib.Dec.{eqb, leb}
 use lib.ListN.{length, take, drop, length-append, length-take}
 use borrow.Author.Tests.{eqb-true, eqb-false}
-use Rattle.rules.specs.declared.Verdict.TheVariants.{Sound}
+use Rattle.std.specs.Prelude.{Ok, Err}
 use Rattle.rules.specs.Rules.{broken_rule}
 use Rattle.records.specs.Numbers.{bytes_of, digits, bytes_of_all}
 use Rattle.records.specs.Framing.{record_of}
@@ -20,7 +20,7 @@ use Rattle.records.specs.Sending.{normal_request, request_bytes}
 use Rattle.records.specs.Ranges.{Sendable}
 use Rattle.records.proofs.Sends.{sent_frame, framed, sent_read}
 use Rattle.image.specs.declared.Spare.{Spare}
-use Rattle.feed.specs.declared.events.Event.TheVariants as E
+use Rattle.feed.specs.declared.events.FeedRefusal.TheVariants.{Repeat, Ahead}
 use Rattle.feed.specs.declared.events.Step.{Step}
 use Rattle.feed.specs.declared.following.Run.{Run}
 use Rattle.feed.specs.Feed.{distance, after, Numbered, body_in, taken_asked, taken_framed, taken_at, still, act_on, turn_on, step_on, is_applied}
@@ -78,12 +78,12 @@ add_suc_out : (a b : ℕ) → a + 1 + b ≡ a + suc b
 add_suc_out a b = omega arith
 
 -- ---- a record that is read
-module _ (sp : Spare) (e : broken_rule sp.state ≡ Sound) (n : ℕ) (x : Numbered) where
+module _ (sp : Spare) (e : broken_rule sp.state ≡ Ok tt) (n : ℕ) (x : Numbered) where
   turn_applied : is_applied (turn_on sp n x).told.event ≡ eqb (distance x.number sp.expected) 0
   unfolding turn_on act_on is_applied
   turn_applied = go (eqb (distance x.number sp.expected) 0) (leb (distance x.number sp.expected) 2147483647)
     where
-      go : (c d : Bool) → is_applied (cond c (act_on sp n x) (cond d (still sp (E.Ahead sp.expected) x.number n) (still sp (E.Repeat sp.expected) x.number n))).told.event ≡ c
+      go : (c d : Bool) → is_applied (cond c (act_on sp n x) (cond d (still sp (Err (Ahead sp.expected)) x.number n) (still sp (Err (Repeat sp.expected)) x.number n))).told.event ≡ c
       go true d = refl
       go false true = refl
       go false false = refl
@@ -115,7 +115,7 @@ abbrev Sends : Numbered → Type 0
 Sends x = Sendable x.number x.request x.list
 
 -- a step at its place
-pub step_sent : (sp : Spare) → broken_rule sp.state ≡ Sound → (x : Numbered) → Sends x → (p t : List ℕ) → step_on sp (p ++ (sent_bytes x ++ t)) (length p) ≡ turn_on sp (length (p ++ sent_bytes x)) (as_read x)
+pub step_sent : (sp : Spare) → broken_rule sp.state ≡ Ok tt → (x : Numbered) → Sends x → (p t : List ℕ) → step_on sp (p ++ (sent_bytes x ++ t)) (length p) ≡ turn_on sp (length (p ++ sent_bytes x)) (as_read x)
 unfolding taken_at
 step_sent sp e x h p t =
     let s = p ++ (sent_bytes x ++ t) in
@@ -126,7 +126,7 @@ step_sent sp e x h p t =
     (ap (taken_framed s (length p)) (framed x.number x.request x.list h p t) ∙ ap (taken_asked (length p) f) read.0)
     ∙ (λ i. turn_on sp (sym (length-append p (sent_bytes x)) i) (record { number = x.number; request = r; list = read.1 i }))
 
-follow_sent : (xs : List Numbered) → Each Sends xs → (sp : Spare) → broken_rule sp.state ≡ Sound → (p : List ℕ) (read many n : ℕ) → length xs ≤ n
+follow_sent : (xs : List Numbered) → Each Sends xs → (sp : Spare) → broken_rule sp.state ≡ Ok tt → (p : List ℕ) (read many n : ℕ) → length xs ≤ n
     → follow_on n (reached sp (length p) read many) (p ++ bytes_of_all sent_bytes xs)
     ≡ reached (fed_all_records sp (map as_read xs)) (length (p ++ bytes_of_all sent_bytes xs)) (read + length xs) (many + length (in_turn number_of sp.expected (map as_read xs)))
 unfolding fed_all in_turn bytes_of_all
@@ -157,7 +157,7 @@ unfolding stamped_from
 stamped_send [] h e l = tt
 stamped_send (x ∷ xs) h e l = (h.0 e l, stamped_send xs h.1 (after e) (after_small e))
 
-module _ (sp : Spare) (e : broken_rule sp.state ≡ Sound) (small : sp.expected < 2 ^ 32) (wishes : List Wish) (can : Each Writable wishes)
+module _ (sp : Spare) (e : broken_rule sp.state ≡ Ok tt) (small : sp.expected < 2 ^ 32) (wishes : List Wish) (can : Each Writable wishes)
     (js : List ℕ) (a : Arrives (2 ^ 31) (length wishes) js) where
   read_all : length (picked (stamped_from sp.expected wishes) js) ≡ length js
   read_all = picked_length (stamped_from sp.expected wishes) js (subst (λ (m : ℕ). Receipts m js) (sym (stamped_length wishes sp.expected)) a.sent)

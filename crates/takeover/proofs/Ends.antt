@@ -12,7 +12,7 @@ use lib.Seq.{take_all}
 use borrow.Author.Tests.{eq-eqb}
 use Rattle.lists.proofs.Tests.{cond_true}
 use Rattle.state.specs.declared.LockState.{LockState}
-use Rattle.rules.specs.declared.Verdict.TheVariants.{Sound}
+use Rattle.std.specs.Prelude.{Ok}
 use Rattle.rules.specs.Rules.{broken_rule}
 use Rattle.lookups.proofs.Verdicts.{on_sound_lem}
 use Rattle.records.specs.declared.requests.Request.{Request}
@@ -57,7 +57,7 @@ numbered_take (suc n) (x ∷ xs) e = ap (λ (l : List Numbered). as_read (stampe
 pub read_performs : (x : Numbered) (s : LockState) → performs (as_read x) s ≡ (perform_on s x.request x.list).state
 read_performs x s = ap (λ (p : Performed). p.state) (act_normal s _ x.request ∙ act_listed s x.list x.request)
 
-all_done : (ws : List Wish) (sp : Spare) → broken_rule sp.state ≡ Sound → sp.expected < 2 ^ 32 → fed_all_records sp (numbered_from sp.expected ws) ≡ done_all sp ws
+all_done : (ws : List Wish) (sp : Spare) → broken_rule sp.state ≡ Ok tt → sp.expected < 2 ^ 32 → fed_all_records sp (numbered_from sp.expected ws) ≡ done_all sp ws
 unfolding fed_all done_all stamped_from
 all_done [] sp e h = refl
 all_done (x ∷ xs) sp e h =
@@ -69,7 +69,7 @@ all_done (x ∷ xs) sp e h =
 
 -- ---- the primary
 -- its own step on a sound spare is one operation done
-pub own_done : (sp : Spare) → broken_rule sp.state ≡ Sound → (n : ℕ) (r : Request) (ws : List ℕ) → (own_on sp n r ws).spare ≡ moved (perform_on sp.state r ws).state sp
+pub own_done : (sp : Spare) → broken_rule sp.state ≡ Ok tt → (n : ℕ) (r : Request) (ws : List ℕ) → (own_on sp n r ws).spare ≡ moved (perform_on sp.state r ws).state sp
 unfolding own_on
 own_done sp e n r ws = ap (λ (x : Step). x.spare) (sym (on_sound_lem sp.state _ _ (broken_rule sp.state) refl e))
 
@@ -80,7 +80,7 @@ done_expected zero ws sp h l = number_first sp.expected h
 done_expected (suc n) [] sp h l = absurd (omega arith)
 done_expected (suc n) (x ∷ xs) sp h l = done_expected n xs (moved (perform_on sp.state x.request x.words).state sp) (after_small sp.expected) (omega arith) ∙ number_on sp.expected n
 
-module _ (sp : Spare) (e : broken_rule sp.state ≡ Sound) (h : sp.expected < 2 ^ 32) (wishes : List Wish) where
+module _ (sp : Spare) (e : broken_rule sp.state ≡ Ok tt) (h : sp.expected < 2 ^ 32) (wishes : List Wish) where
   abbrev received : List ℕ → Spare
   received js = fed_all_records sp (received_from sp.expected wishes js)
 

@@ -6,7 +6,7 @@
 use mathlib.Core.Path.{◌≡◌, refl, ap, subst}
 use mathlib.Core.Bool.{Bool, true, cond}
 use mathlib.Core.List.{List}
-use mathlib.Core.Option.{Option, none, some}
+use Rattle.std.specs.Prelude.{Option, None, Some}
 use Prim.Native.Nat.{ℕ}
 use lib.Dec.{eqb, leb, ltb}
 use Rattle.lists.specs.Tests.{Yes, No, non}
@@ -18,21 +18,14 @@ use Rattle.state.specs.declared.ActiveLock.{ActiveLock}
 use Rattle.state.specs.declared.LockState.{LockState}
 use Rattle.state.specs.Locks.{has_id, has_id_d, normal}
 use Rattle.state.specs.Model.{Model, Limits, model_of, full, fits}
-use Rattle.rules.specs.declared.Verdict.TheVariants.{Sound}
+use Rattle.std.specs.Prelude.{Result, Ok, Err, ⊤}
 use Rattle.rules.specs.Rules.{broken_rule}
 use Rattle.lookups.specs.Reads.{on_sound}
-use Rattle.operations.specs.declared.answers.Answer.{Answer}
-use Rattle.operations.specs.declared.answers.Answer.TheVariants.{Done, DuplicateId, DuplicateScope, ActiveLockNotFound, ParentNotFound, ParentNotVehicle, ReplacementScopeConflict, CoverageConflict, RevisionOverflow, NotRootVehicle, BadChild, OtherOwner, NotCovered, Invariant, UnsoundState, NoRoom, BadList}
-use Rattle.operations.specs.declared.answers.Renewal.{Renewal}
-use Rattle.operations.specs.declared.answers.Acknowledgement.{Acknowledgement}
-use Rattle.operations.specs.declared.answers.Inserted.{Inserted}
-use Rattle.operations.specs.declared.answers.Renewed.{Renewed}
-use Rattle.operations.specs.declared.answers.Deleted.{Deleted}
-use Rattle.operations.specs.declared.answers.Expired.{Expired}
-use Rattle.operations.specs.declared.answers.Replaced.{Replaced}
-use Rattle.operations.specs.declared.answers.Acknowledged.{Acknowledged}
-use Rattle.operations.specs.declared.answers.DefunctsExpired.{DefunctsExpired}
-use Rattle.operations.specs.Answers.{is_done, refuse_if, and_then, paper_of, renewal_paper, deletion_paper, expiration_paper, acknowledgement_paper, expiry_paper}
+use Rattle.operations.specs.declared.answers.Refusal.{Refusal}
+use Rattle.operations.specs.declared.answers.Refusal.TheVariants.{DuplicateId, DuplicateScope, ActiveLockNotFound, ParentNotFound, ParentNotVehicle, ReplacementScopeConflict, CoverageConflict, RevisionOverflow, NotRootVehicle, BadChild, OtherOwner, NotCovered, Invariant, UnsoundState, NoRoom, BadList}
+use Rattle.operations.specs.declared.answers.RenewalRefusal.{RenewalRefusal}
+use Rattle.operations.specs.declared.answers.StateRefusal.{StateRefusal}
+use Rattle.operations.specs.Answers.{Inserted, Renewed, Deleted, Expired, Replaced, Acknowledged, DefunctsExpired, is_done, refuse_if, and_then, paper_of, renewal_paper, deletion_paper, expiration_paper, acknowledgement_paper, expiry_paper}
 use Rattle.operations.specs.Checks.{at_last_lem, check_list, check_room}
 use Rattle.operations.specs.Insert.{judge_insert, insert_active_on}
 use Rattle.operations.specs.Vehicle.{judge_vehicle, insert_vehicle_on}
@@ -47,8 +40,9 @@ use Rattle.records.specs.declared.requests.Request.TheVariants.{Insert, InsertVe
 use Rattle.image.specs.declared.Spare.{Spare}
 use Rattle.calls.specs.Calls.{perform_on, outcome_paper}
 use Rattle.feed.specs.declared.events.Step.{Step}
-use Rattle.feed.specs.declared.taking.Taken.{Taken}
-use Rattle.feed.specs.declared.taking.Taken.TheVariants as taken
+use Rattle.records.specs.declared.frame.Unread.{Unread}
+use Rattle.records.specs.declared.frame.Unread.TheVariants as U
+use Rattle.feed.specs.declared.taking.Placed.{Placed}
 use Rattle.feed.specs.Feed.{distance, after, Numbered, numbered, body_in, taken_at, act_on, turn_on, taken_on, step_on, event_paper}
 use Rattle.feed.proofs.Words.{EvenAsked, asked_even}
 use Rattle.feed.proofs.Stepping.{taken_frame}
@@ -62,31 +56,31 @@ abbrev pub number_of : Step → ℕ
 number_of x = (event_paper x.told.event).number
 
 -- ---- the judgements of insertions and replacement
-own_moves : (a : Answer) → No (foreign_if true a) → Yes (moves (paper_of a).number)
+own_moves : (a : Result ⊤ Refusal) → No (foreign_if true a) → Yes (moves (paper_of a).number)
 unfolding paper_of
-own_moves Done f = refl
-own_moves (DuplicateId i) f = refl
-own_moves DuplicateScope f = refl
-own_moves (ActiveLockNotFound i) f = refl
-own_moves (ParentNotFound i) f = refl
-own_moves (ParentNotVehicle i) f = refl
-own_moves ReplacementScopeConflict f = refl
-own_moves (CoverageConflict i at) f = refl
-own_moves RevisionOverflow f = refl
-own_moves NotRootVehicle f = refl
-own_moves (BadChild i) f = refl
-own_moves (OtherOwner i j) f = refl
-own_moves (NotCovered i j) f = refl
-own_moves Invariant f = refl
-own_moves (UnsoundState n) f = absurd (against f refl)
-own_moves NoRoom f = refl
-own_moves BadList f = absurd (against f refl)
+own_moves (Ok tt) f = refl
+own_moves (Err (DuplicateId i)) f = refl
+own_moves (Err DuplicateScope) f = refl
+own_moves (Err (ActiveLockNotFound i)) f = refl
+own_moves (Err (ParentNotFound i)) f = refl
+own_moves (Err (ParentNotVehicle i)) f = refl
+own_moves (Err ReplacementScopeConflict) f = refl
+own_moves (Err (CoverageConflict i at)) f = refl
+own_moves (Err RevisionOverflow) f = refl
+own_moves (Err NotRootVehicle) f = refl
+own_moves (Err (BadChild i)) f = refl
+own_moves (Err (OtherOwner i j)) f = refl
+own_moves (Err (NotCovered i j)) f = refl
+own_moves (Err Invariant) f = refl
+own_moves (Err (UnsoundState n)) f = absurd (against f refl)
+own_moves (Err NoRoom) f = refl
+own_moves (Err BadList) f = absurd (against f refl)
 
-judge_moves : (k : Limits) (a : Answer) (n : Model) → No (foreign_if true a) → Yes (moves (paper_of (and_then a (check_room k n))).number)
+judge_moves : (k : Limits) (a : Result ⊤ Refusal) (n : Model) → No (foreign_if true a) → Yes (moves (paper_of (and_then a (check_room k n))).number)
 unfolding and_then check_room refuse_if paper_of
-judge_moves k a n f = cond_both P _ a (is_done a) (λ t. cond_both P NoRoom Done (non (fits k n)) (λ u. refl) (λ u. refl)) (λ t. own_moves a f)
+judge_moves k a n f = cond_both P _ a (is_done a) (λ t. cond_both P (Err NoRoom) (Ok tt) (non (fits k n)) (λ u. refl) (λ u. refl)) (λ t. own_moves a f)
   where
-    P : Answer → Type 0
+    P : Result ⊤ Refusal → Type 0
     P r = Yes (moves (paper_of r).number)
 
 list_moves : (ws : List ℕ) → No (odd_words ws) → No (foreign_if true (check_list ws))
@@ -94,7 +88,7 @@ unfolding check_list refuse_if
 list_moves ws h = ap (foreign_if true) (cond_false _ _ _ h)
 
 -- ---- each operation on a sound state
-module _ (s : LockState) (e : broken_rule s ≡ Sound) where
+module _ (s : LockState) (e : broken_rule s ≡ Ok tt) where
   -- the arm of a sound state
   sound_arm : {A : Type 0} (P : A → Type 0) (u : ℕ → A) (a : A) → P a → P (on_sound s u a)
   unfolding on_sound
@@ -125,12 +119,12 @@ module _ (s : LockState) (e : broken_rule s ≡ Sound) where
   unfolding renew_on judge_renew refuse_if renewal_paper
   renew_moves i t now has d = sound_arm (λ (r : Renewed). Yes (moves (renewal_paper r.told).number)) _ _ (go (find (has_id i) (model_of s).active))
     where
-      P : Renewal → Type 0
+      P : Result ⊤ RenewalRefusal → Type 0
       P a = Yes (moves (renewal_paper (settled_renew a s (renewed_in (model_of s) i t has d)).told).number)
 
       go : (o : Option ActiveLock) → P (judge_found (model_of s) i t now o)
-      go none = refl
-      go (some a) =
+      go None = refl
+      go (Some a) =
           cond_both P _ _ (leb a.expires now) (λ u. refl) (λ u.
           cond_both P _ _ (leb t a.expires) (λ u. refl) (λ u.
           cond_both P _ _ (at_last_lem s.revision) (λ u. refl) (λ u. refl)))
@@ -143,8 +137,8 @@ module _ (s : LockState) (e : broken_rule s ≡ Sound) where
       P r = Yes (moves (deletion_paper r.told.answer).number)
 
       go : (o : Option ActiveLock) → P (delete_found s i o)
-      go none = refl
-      go (some r) = cond_both P _ _ (at_last_lem s.revision) (λ u. refl) (λ u. refl)
+      go None = refl
+      go (Some r) = cond_both P _ _ (at_last_lem s.revision) (λ u. refl) (λ u. refl)
 
   expiration_moves : (i : LockId) (now : ℕ) → Yes (moves (expiration_paper (begin_expiration_on s i now).told.answer).number)
   unfolding begin_expiration_on expire_found delete_on delete_found expiration_paper
@@ -158,12 +152,12 @@ module _ (s : LockState) (e : broken_rule s ≡ Sound) where
 
       -- as a deletion
       gone : (o : Option ActiveLock) → Q (delete_found s i o)
-      gone none = refl
-      gone (some r) = cond_both Q _ _ (at_last_lem s.revision) (λ u. refl) (λ u. refl)
+      gone None = refl
+      gone (Some r) = cond_both Q _ _ (at_last_lem s.revision) (λ u. refl) (λ u. refl)
 
       go : (o : Option ActiveLock) → P (expire_found s i now o)
-      go none = refl
-      go (some r) = cond_both P _ _ (ltb now r.expires) (λ u. refl) (λ u. sound_arm Q _ _ (gone (find (has_id i) (model_of s).active)))
+      go None = refl
+      go (Some r) = cond_both P _ _ (ltb now r.expires) (λ u. refl) (λ u. sound_arm Q _ _ (gone (find (has_id i) (model_of s).active)))
 
   acknowledge_moves : (i : LockId) → Yes (moves (acknowledgement_paper (acknowledge_on s i).told).number)
   unfolding acknowledge_on acknowledged_to told_acknowledge acknowledgement_paper
@@ -172,7 +166,7 @@ module _ (s : LockState) (e : broken_rule s ≡ Sound) where
       (cond_both (λ (r : Acknowledged). Yes (moves (acknowledgement_paper r.told).number)) _ _ (any (has_id_d i) (model_of s).defunct)
       (λ u. cond_both P _ _ (at_last_lem s.revision) (λ u. refl) (λ u. refl)) (λ u. refl))
     where
-      P : Acknowledgement → Type 0
+      P : Result Bool StateRefusal → Type 0
       P a = Yes (moves (acknowledgement_paper a).number)
 
   expiry_moves : (now : ℕ) → Yes (moves (expiry_paper (expire_defunct_on s now).told.answer).number)
@@ -186,7 +180,7 @@ module _ (s : LockState) (e : broken_rule s ≡ Sound) where
       P r = Yes (moves (expiry_paper r.told.answer).number)
 
 -- ---- a call with ids in pairs of words
-pub perform_moves : (s : LockState) → broken_rule s ≡ Sound → (r : Request) (ws : List ℕ) → No (odd_words ws) → Yes (moves (outcome_paper (perform_on s r ws).outcome).number)
+pub perform_moves : (s : LockState) → broken_rule s ≡ Ok tt → (r : Request) (ws : List ℕ) → No (odd_words ws) → Yes (moves (outcome_paper (perform_on s r ws).outcome).number)
 unfolding perform_on outcome_paper
 perform_moves s e (Insert x) ws h = insert_moves s e x
 perform_moves s e (InsertVehicle x) ws h = vehicle_moves s e x ws h
@@ -203,20 +197,20 @@ pub data Turn (sp : Spare) (x : Step) : Type 0 where
   stayed : No (moves (number_of x)) → x.spare ≡ sp → Turn sp x
 
 module _ (sp : Spare) (s : List ℕ) (at : ℕ) where
-  turn_turn : broken_rule sp.state ≡ Sound → (n : ℕ) (x : Numbered) → No (odd_words x.list) → Turn sp (turn_on sp n x)
+  turn_turn : broken_rule sp.state ≡ Ok tt → (n : ℕ) (x : Numbered) → No (odd_words x.list) → Turn sp (turn_on sp n x)
   unfolding turn_on act_on event_paper
   turn_turn e n x h =
       cond_both (Turn sp) _ _ (eqb (distance x.number sp.expected) 0) (λ t. moved (perform_moves sp.state e x.request x.list h) (act_due sp n x)) (λ t.
       cond_both (Turn sp) _ _ (leb (distance x.number sp.expected) 2147483647) (λ u. stayed refl refl) (λ u. stayed refl refl))
 
-  taken_turn : broken_rule sp.state ≡ Sound → (t : Taken) → taken_at s at ≡ t → Turn sp (taken_on sp s at t)
+  taken_turn : broken_rule sp.state ≡ Ok tt → (t : Result Placed Unread) → taken_at s at ≡ t → Turn sp (taken_on sp s at t)
   unfolding event_paper
-  taken_turn e (taken.Torn x) g = stayed refl refl
-  taken_turn e (taken.BadKind x) g = stayed refl refl
-  taken_turn e (taken.BadField x) g = stayed refl refl
-  taken_turn e (taken.Record p) g =
+  taken_turn e (Err (U.Torn x)) g = stayed refl refl
+  taken_turn e (Err (U.BadKind x)) g = stayed refl refl
+  taken_turn e (Err (U.BadField x)) g = stayed refl refl
+  taken_turn e (Ok p) g =
       let b = body_in s p.frame in
-      turn_turn e p.frame.next (numbered p b) (subst (EvenAsked b) (taken_frame s at (taken.Record p) g).1 (asked_even p.frame.kind b))
+      turn_turn e p.frame.next (numbered p b) (subst (EvenAsked b) (taken_frame s at (Ok p) g).1 (asked_even p.frame.kind b))
 
   pub step_turn : Turn sp (step_on sp s at)
   unfolding event_paper

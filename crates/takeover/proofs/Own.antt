@@ -5,7 +5,7 @@ use mathlib.Core.Path.{◌≡◌, refl, ap, ◌∙◌}
 use mathlib.Core.List.{List, ◌++◌}
 use Prim.Native.Nat.{ℕ}
 use lib.ListN.{length}
-use Rattle.rules.specs.declared.Verdict.TheVariants.{Sound}
+use Rattle.std.specs.Prelude.{Ok}
 use Rattle.rules.specs.Rules.{broken_rule}
 use Rattle.lookups.proofs.Verdicts.{on_sound_lem}
 use Rattle.records.specs.declared.requests.Request.{Request}
@@ -18,7 +18,7 @@ use Rattle.feed.proofs.Turning.{distance_own, in_turn_lem}
 use Rattle.takeover.specs.Ends.{as_read, own_on}
 use Rattle.takeover.proofs.Arriving.{step_sent}
 
-pub own_step : (sp : Spare) → broken_rule sp.state ≡ Sound → (r : Request) (ws : List ℕ) → Sendable sp.expected r ws → (p t : List ℕ)
+pub own_step : (sp : Spare) → broken_rule sp.state ≡ Ok tt → (r : Request) (ws : List ℕ) → Sendable sp.expected r ws → (p t : List ℕ)
     → step_on sp (p ++ (request_bytes sp.expected r ws ++ t)) (length p) ≡ own_on sp (length (p ++ request_bytes sp.expected r ws)) r ws
 unfolding act_on own_on
 own_step sp e r ws k p t =

@@ -13,7 +13,7 @@ use lib.ListN.{length, take, drop}
 use borrow.Author.Tests.{eq-eqb, ne_eqb, eqb-true, eqb-false}
 use Rattle.lists.proofs.Tests.{cond_true, cond_false, cond_both}
 use Rattle.state.specs.declared.LockState.{LockState}
-use Rattle.rules.specs.declared.Verdict.TheVariants.{Sound}
+use Rattle.std.specs.Prelude.{Ok}
 use Rattle.rules.specs.Rules.{broken_rule}
 use Rattle.image.specs.declared.Spare.{Spare}
 use Rattle.feed.specs.Feed.{distance, after}
@@ -103,7 +103,7 @@ module _ {X : Type 0} (number : X → ℕ) where
     turn_picked js a = ap (λ (y : ℕ). in_turn number y (picked xs js)) (number_first e he) ∙ turn_rest js 0 a.sent a.near
 
   -- ---- a spare
-  module _ (act : X → LockState → LockState) (keeps : (x : X) (s : LockState) → broken_rule s ≡ Sound → broken_rule (act x s) ≡ Sound) where
+  module _ (act : X → LockState → LockState) (keeps : (x : X) (s : LockState) → broken_rule s ≡ Ok tt → broken_rule (act x s) ≡ Ok tt) where
     pub any_ends : (sp : Spare) (xs : List X) → sp.expected < 2 ^ 32 → Turns number sp.expected xs → (w : ℕ) → w ≤ 2 ^ 32
         → (js : List ℕ) → Arrives w (length xs) js → fed_all number act sp (picked xs js) ≡ fed_all number act sp (take (applied 0 js) xs)
     any_ends sp xs he t w round js a = only_in_turn number act keeps sp (picked xs js) ∙ ap (fed_all number act sp) (turn_picked xs sp.expected he t w round js a)

@@ -9,7 +9,8 @@ use Rattle.records.specs.Ranges.{Sendable}
 use Rattle.image.specs.declared.Spare.{Spare}
 use Rattle.calls.specs.Calls.{perform_on}
 use Rattle.lookups.specs.Reads.{on_sound}
-use Rattle.feed.specs.declared.events.Event.TheVariants as E
+use Rattle.std.specs.Prelude.{Err}
+use Rattle.feed.specs.declared.events.FeedRefusal.TheVariants.{UnsoundState}
 use Rattle.feed.specs.declared.events.Step.{Step}
 use Rattle.feed.specs.Feed.{after, Numbered, still, onward}
 use Rattle.takeover.specs.Feeding.{moved}
@@ -46,7 +47,7 @@ done_all sp (x ∷ xs) = done_all (moved (perform_on sp.state x.request x.words)
 
 -- one operation with what it tells: 12, then the operation under the number that is due, which a record of n bytes carries
 unfoldable pub own_on : Spare → ℕ → Request → List ℕ → Step
-own_on sp n r ws = on_sound sp.state (λ k. still sp (E.UnsoundState k) 0 0) (onward sp sp.expected n (perform_on sp.state r ws))
+own_on sp n r ws = on_sound sp.state (λ k. still sp (Err (UnsoundState k)) 0 0) (onward sp sp.expected n (perform_on sp.state r ws))
 
 -- ---- numbers in turn, over any element
 -- the number of the one that comes j after the first

@@ -5,8 +5,9 @@ use Rattle.state.specs.declared.LockState.{LockState}
 use Rattle.lookups.specs.Reads.{on_sound}
 use Rattle.image.specs.declared.Spare.{Spare}
 use Rattle.calls.specs.Calls.{perform_on}
-use Rattle.feed.specs.declared.taking.Taken.{Taken}
-use Rattle.feed.specs.declared.taking.Taken.TheVariants as taken
+use Rattle.std.specs.Prelude.{Result, Ok, Err}
+use Rattle.records.specs.declared.frame.Unread.{Unread}
+use Rattle.feed.specs.declared.taking.Placed.{Placed}
 use Rattle.feed.specs.Feed.{distance, after, Numbered, numbered, body_in, taken_at}
 
 -- the state that an element leaves, and the next number is due
@@ -44,11 +45,9 @@ number_of x = x.number
 abbrev pub performs : Numbered → LockState → LockState
 performs x s = (perform_on s x.request x.list).state
 
-abbrev pub on_taken : List ℕ → (ℕ → List Numbered) → Taken → List Numbered
-on_taken s f (taken.Torn x) = []
-on_taken s f (taken.BadKind x) = []
-on_taken s f (taken.BadField x) = []
-on_taken s f (taken.Record p) = numbered p (body_in s p.frame) ∷ f p.frame.next
+abbrev pub on_taken : List ℕ → (ℕ → List Numbered) → Result Placed Unread → List Numbered
+on_taken s f (Err u) = []
+on_taken s f (Ok p) = numbered p (body_in s p.frame) ∷ f p.frame.next
 
 -- the records from `at` on, as far as they can be read, at most k
 unfoldable pub records_in : ℕ → List ℕ → ℕ → List Numbered

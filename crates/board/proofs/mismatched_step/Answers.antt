@@ -3,4 +3,4 @@ use Rattle.board.proofs.mismatched_step.Goals as goal
 
 pub returns : goal.returns
 unfolding blank_active
-returns c = rw c.blank_active-b.ensures
+returns c = rw c.blank_active.ensures

@@ -1,12 +1,12 @@
-use Rattle.std.proofs.Common.{◌∙◌, rules}
+use Rattle.std.proofs.Common.{Err, ap, ◌∙◌}
+use Rattle.feed.specs.declared.events.FeedRefusal.{FeedRefusal}
+use Rattle.feed.specs.Feed.{still}
 use Rattle.feed.proofs.Stepping.{tested_broken, tested_sound}
 use Rattle.feed.proofs.refused.Goals as goal
 
-pub returns-in-Broken : goal.returns-in-Broken
-returns-in-Broken c = c.still.ensures ∙ tested_broken _ _ _ _ c.broken-v.ensures _ c.in-Broken.is
-
-pub enum_told-1 : goal.enum_told-1
-enum_told-1 c = search rules
+pub returns-in-Err : goal.returns-in-Err
+returns-in-Err c =
+    c.still.ensures ∙ ap (λ (x : FeedRefusal). still c.args.spare (Err x) 0 c.args.at) c.from.ensures ∙ tested_broken _ _ _ _ c.broken.ensures _ c.in-Err.is
 
 pub returns : goal.returns
-returns c = c.onward.ensures ∙ tested_sound _ _ _ _ c.broken-v.ensures c.in_default.is
+returns c = c.onward.ensures ∙ tested_sound _ _ _ _ c.broken.ensures c.in_default.is

@@ -1,13 +1,12 @@
 use mathlib.Core.Path.{◌≡◌}
-use Prim.Native.Nat.{◌≤◌, ◌-◌}
-use lib.ListN.{length, drop}
+use lib.ListN.{length}
 use Rattle.lists.specs.Lists.{any}
 use Rattle.ids.specs.Order.{same_id}
 use Rattle.ids.specs.Words.{ids_of, listed_in}
 use Rattle.ids.proofs.listed.Given as goal
 
-abbrev pub invariant-loop-j : goal.invariant-loop-j
-invariant-loop-j l = (l.j ≤ l.n) × (l.n ≡ length l.list) × (any (same_id l.id) (ids_of (drop l.j l.list)) ≡ listed_in l.list l.id)
+abbrev pub invariant-loop-rest : goal.invariant-loop-rest
+invariant-loop-rest l = any (same_id l.id) (ids_of l.rest) ≡ listed_in l.list l.id
 
-abbrev pub decreases-loop-j : goal.decreases-loop-j
-decreases-loop-j l = l.n - l.j
+abbrev pub decreases-loop-rest : goal.decreases-loop-rest
+decreases-loop-rest l = length l.rest

@@ -1,20 +1,12 @@
-use mathlib.Core.Path.{sym, ap, ◌∙◌}
-use Rattle.lookups.proofs.Verdicts.{on_broken}
-use Rattle.locks.specs.Locks.{as_dropped, delete_defunct_on}
-use Rattle.locks.proofs.Laws.{drop_done, drop_kept}
-use borrow.Author.Rules.{rules}
-use borrow.Enum.Refused.{opened}
+use Rattle.std.proofs.Common.{rules}
+use Rattle.locks.proofs.Laws.{drop_done, kept_false, kept_err}
 use Rattle.locks.proofs.delete_defunct.Goals as goal
 
-pub enum_told-1 : goal.enum_told-1
-enum_told-1 c = search rules
+pub returns-in-Ok-true : goal.returns-in-Ok-true
+returns-in-Ok-true c = search (rules, drop_done)
 
-pub returns-in-Done : goal.returns-in-Done
-returns-in-Done c = c.as_dropped.ensures ∙ ap as_dropped c.acknowledge_defunct-r.ensures ∙ drop_done _ _ _ _ _ c.judge-told.ensures c.in-Done.is
+pub returns-in-Ok-false : goal.returns-in-Ok-false
+returns-in-Ok-false c = kept_false _ _ _ _ _ c.judge.ensures _ _ c.in-Ok-false.is c.in-Ok-false.field-0-test c.untouched.ensures
 
-pub returns-in-Broken : goal.returns-in-Broken
-unfolding delete_defunct_on
-returns-in-Broken c = on_broken _ _ _ _ _ c.broken-v.ensures c.in-Broken.is
-
-pub returns-in-Sound : goal.returns-in-Sound
-returns-in-Sound c = drop_kept _ _ _ _ _ c.judge-told.ensures (opened c.in_default.in_default-own.keys2) (sym c.broken-v.ensures ∙ c.in-Sound.is)
+pub returns-in-Err : goal.returns-in-Err
+returns-in-Err c = kept_err _ _ _ _ _ c.judge.ensures _ _ c.in-Err.is c.untouched-in-Err.ensures

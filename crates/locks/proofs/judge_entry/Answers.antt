@@ -11,14 +11,14 @@ returns-then-not-same_scope c =
     let e : same_scope _ _ ≡ false = sym c.same_scope.ensures ∙ c.if-not-same_scope.true in
     rw e
 
-pub returns-then-lock-subject : goal.returns-then-lock-subject
+pub returns-then-d-subject : goal.returns-then-d-subject
 unfolding judge_entry
-returns-then-lock-subject c =
+returns-then-d-subject c =
     let e : same_scope _ _ ≡ true = sym c.same_scope.ensures ∙ c.if-not-same_scope.false in
-    rw (e, ne_eqb _ _ c.if-lock-subject.true)
+    rw (e, ne_eqb _ _ c.if-d-subject.true)
 
 pub returns : goal.returns
 unfolding judge_entry
 returns c =
     let e : same_scope _ _ ≡ true = sym c.same_scope.ensures ∙ c.if-not-same_scope.false in
-    rw (e, eq-eqb _ _ c.if-lock-subject.false)
+    rw (e, eq-eqb _ _ c.if-d-subject.false)

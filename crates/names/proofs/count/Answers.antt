@@ -1,17 +1,9 @@
+use Rattle.std.proofs.lemmas.Result.{err_from_is_err_and}
 use Rattle.names.proofs.Chain.{no_count, counts}
-use Rattle.names.proofs.Right.{right_size, right_count}
-use mathlib.Core.Path.{sym, ◌∙◌}
-use native.Mathlib.Omega.{arith}
 use Rattle.names.proofs.count.Goals as goal
 
-pub returns-then-not-check_table : goal.returns-then-not-check_table
-returns-then-not-check_table c = no_count _ _ _ c.check_table.ensures c.if-not-check_table.true
-
-pub count_of-requires : goal.count_of-requires
-count_of-requires c = right_size _ _ (sym c.check_table.ensures ∙ c.if-not-check_table.false)
-
-pub overflow_cast-result : goal.overflow_cast-result
-overflow_cast-result c = omega (arith, right_count _ _ (sym c.check_table.ensures ∙ c.if-not-check_table.false), c.count_of.ensures)
+pub returns-in_err-read : goal.returns-in_err-read
+returns-in_err-read c = let p = err_from_is_err_and c.from_residual.result c.from_residual.ensures.1 in rw p.1 (no_count _ _ _ c.in_err-read.ensures)
 
 pub returns : goal.returns
-returns c = counts _ _ _ c.check_table.ensures _ c.if-not-check_table.false c.count_of.ensures
+returns c = counts _ _ _ c.in_ok-read.ensures.0 c.in_ok-read.ensures.2

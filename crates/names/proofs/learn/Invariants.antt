@@ -1,5 +1,4 @@
 use mathlib.Core.Path.{◌≡◌}
-use Prim.Native.Nat.{◌≤◌, ◌-◌}
 use lib.ListN.{length}
 use lib.Seq.{paste}
 use Rattle.names.specs.Bytes.{kept}
@@ -7,7 +6,4 @@ use Rattle.names.specs.Table.{table_size}
 use Rattle.names.proofs.learn.Given as goal
 
 abbrev pub invariant-loop-i : goal.invariant-loop-i
-invariant-loop-i l = (l.i ≤ length l.name) × (length l.table ≡ table_size) × (l.table ≡ paste l.initial.table l.at (kept l.folding l.name) l.i)
-
-abbrev pub decreases-loop-i : goal.decreases-loop-i
-decreases-loop-i l = length l.name - l.i
+invariant-loop-i l = (length l.table ≡ table_size) × (l.table ≡ paste l.initial.table l.at (kept l.folding l.name) l.i)

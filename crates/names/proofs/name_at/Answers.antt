@@ -1,24 +1,14 @@
+use mathlib.Core.Path.{ap, ◌∙◌}
+use Rattle.std.proofs.Common.{List, ℕ}
+use Rattle.names.specs.Table.{name_of, entry_at}
 use Rattle.names.proofs.Chain.{no_name, past_name, named}
-use Rattle.names.proofs.Entries.{entry_long, short_at}
-use Rattle.names.proofs.Right.{right_size, right_count, right_short}
-use mathlib.Core.Path.{sym, ◌∙◌}
-use native.Mathlib.Omega.{arith}
 use Rattle.names.proofs.name_at.Goals as goal
 
-pub returns-then-not-check_table : goal.returns-then-not-check_table
-returns-then-not-check_table c = no_name _ _ _ _ c.check_table.ensures c.if-not-check_table.true
+pub returns-in_default : goal.returns-in_default
+returns-in_default c = no_name _ _ _ c.in_default.ensures
 
-pub count_of-requires : goal.count_of-requires
-count_of-requires c = right_size _ _ (sym c.check_table.ensures ∙ c.if-not-check_table.false)
-
-pub returns-then-count_of-i : goal.returns-then-count_of-i
-returns-then-count_of-i c = past_name _ _ _ _ c.check_table.ensures c.if-not-check_table.false _ c.count_of.ensures c.if-count_of-i.true
-
-pub entry_of-requires : goal.entry_of-requires
-entry_of-requires c = let y = sym c.check_table.ensures ∙ c.if-not-check_table.false in (right_size _ _ y, omega (arith, right_count _ _ y, c.count_of.ensures))
-
-pub name_of-requires : goal.name_of-requires
-name_of-requires c = let y = sym c.check_table.ensures ∙ c.if-not-check_table.false in let h = c.count_of.ensures in (entry_long _ _ c.args.number (right_size _ _ y) (omega (arith, right_count _ _ y, h)) c.entry_of.ensures, short_at _ _ _ _ (right_short _ _ y) (omega (arith, h)) c.entry_of.ensures)
+pub returns-then-names-i : goal.returns-then-names-i
+returns-then-names-i c = past_name _ _ _ c.in-Ok.ensures.0 _ c.in-Ok.ensures.2 c.if-names-i.true
 
 pub returns : goal.returns
-returns c = named _ _ _ _ c.check_table.ensures c.if-not-check_table.false _ c.count_of.ensures _ _ c.if-count_of-i.false c.entry_of.ensures c.name_of.ensures
+returns c = let g = c.in-Ok.ensures in named _ _ _ g.0 _ g.2 _ c.if-names-i.false (c.name.ensures ∙ ap (λ (t : List ℕ). name_of (entry_at t c.args.number)) g.1)

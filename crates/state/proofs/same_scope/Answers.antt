@@ -1,6 +1,6 @@
-use Rattle.state.specs.Locks.{same_scope}
+use mathlib.Core.Path.{◌∙◌}
+use Rattle.state.proofs.Laws.{eq_scope}
 use Rattle.state.proofs.same_scope.Goals as goal
 
 pub returns : goal.returns
-unfolding same_scope
-returns c = rw (c.scope_code.ensures, c.scope_code-2.ensures)
+returns c = c.eq.ensures ∙ eq_scope c.args.a c.args.b

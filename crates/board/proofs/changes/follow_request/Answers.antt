@@ -1,7 +1,12 @@
-use Rattle.std.proofs.Common.{ℕ, ap, ◌∙◌}
-use Rattle.state.specs.Model.{model_of}
-use Rattle.board.specs.Board.{moved, updated}
+use Rattle.std.proofs.Common.{◌≡◌, length, rules}
+use Rattle.lists.proofs.Loops.{length_of_mapped}
+use Rattle.board.proofs.Followed.{follow_moved}
 use Rattle.board.proofs.changes.follow_request.Goals as goal
+use Rattle.board.proofs.changes.follow_request.Goals.{Start}
+
+long : (c : Start) → length c.args.step.told.removed ≡ 64
+long c = search (rules, length_of_mapped)
 
 pub returns : goal.returns
-returns c = c.follow.ensures ∙ ap (λ (n : ℕ). updated (moved c.args.request n c.args.step.told.gone c.args.step.told.removed) (model_of c.args.step.spare.state).active c.args.board.now) c.number.ensures
+returns c = let d = c.args.step.told in
+    follow_moved c.args.request _ _ d.gone _ d.removed _ _ _ _ (long (goal.at.returns c).Start) c.min.ensures c.number-number.ensures c.active_locks.ensures c.follow.ensures

@@ -1,13 +1,16 @@
-use mathlib.Core.Path.{sym}
-use borrow.Author.Tests.{eq-eqb, ne_eqb}
-use Rattle.lists.proofs.Tests.{cond_true, cond_false}
-use Rattle.cablegorse.specs.Questions.{tester_of}
+use Rattle.std.proofs.Common.{rules, arith}
+use Rattle.std.proofs.lemmas.Result.{err_from_is_err_and}
+use Rattle.cablegorse.proofs.Ranges.{tester_past, tester_ecu, tester_group, tester_none}
 use Rattle.cablegorse.proofs.arguments.tester_in.Goals as goal
 
-pub returns-then-kind-eq1 : goal.returns-then-kind-eq1
-unfolding tester_of
-returns-then-kind-eq1 c = sym (cond_true _ _ _ (eq-eqb c.args.kind 1 c.if-kind-eq1.true))
+pub returns-in_err-n : goal.returns-in_err-n
+returns-in_err-n c = let p = err_from_is_err_and c.from_residual.result c.from_residual.ensures.1 in rw (p.1, p.2) (tester_past c.args.kind c.args.number (omega (arith, c.in_err-n.ensures)))
 
-pub returns : goal.returns
-unfolding tester_of
-returns c = sym (cond_false _ _ _ (ne_eqb c.args.kind 1 c.if-kind-eq1.false))
+pub returns-in-1 : goal.returns-in-1
+returns-in-1 c = rw c.in_ok-n.ensures.1 (tester_ecu c.args.kind c.args.number (omega (arith, c.in_ok-n.ensures)) c.in-1.is)
+
+pub returns-in-2 : goal.returns-in-2
+returns-in-2 c = rw c.in_ok-n.ensures.1 (tester_group c.args.kind c.args.number (omega (arith, c.in_ok-n.ensures)) c.in-2.is)
+
+pub returns-in_default : goal.returns-in_default
+returns-in_default c = rw c.new.ensures (search (tester_none, rules))

@@ -1,13 +1,10 @@
-use mathlib.Core.Path.{◌∙◌}
-use Rattle.lookups.proofs.Verdicts.{on_broken, on_sound_lem}
-use borrow.Author.Rules.{rules}
+use mathlib.Core.Path.{refl, ◌∙◌}
+use Rattle.lookups.proofs.Verdicts.{on_sound_lem}
+use Rattle.cablegorse.proofs.Images.{broken_told}
 use Rattle.cablegorse.proofs.boards.unmatched.Goals as goal
 
-pub returns-in-Broken : goal.returns-in-Broken
-returns-in-Broken c = c.one.ensures ∙ on_broken c.args.state _ _ _ _ c.broken.ensures c.in-Broken.is
+pub returns-in-Err : goal.returns-in-Err
+returns-in-Err c = c.from.ensures ∙ broken_told (λ t. t) c.args.state _ _ c.in-Err.ensures
 
-pub enum_told-1 : goal.enum_told-1
-enum_told-1 c = search rules
-
-pub returns : goal.returns
-returns c = c.none.ensures ∙ on_sound_lem c.args.state _ _ _ c.broken.ensures c.in_default.is
+pub returns-in-Ok : goal.returns-in-Ok
+returns-in-Ok c = c.new.ensures ∙ on_sound_lem c.args.state _ _ _ c.in-Ok.ensures refl

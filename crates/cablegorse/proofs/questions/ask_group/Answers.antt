@@ -1,20 +1,24 @@
-use mathlib.Core.Path.{sym, ap, ◌∙◌}
-use native.Mathlib.Omega.{arith}
-use Rattle.lists.proofs.Tests.{cond_true, cond_false}
-use Rattle.cablegorse.specs.Questions.{active_reply, group_asked}
-use Rattle.cablegorse.proofs.Ranges.{both_in, one_out, both_test}
+use mathlib.Core.Path.{ap, ◌∙◌}
+use Rattle.std.proofs.Common.{arith}
+use Rattle.std.proofs.lemmas.Result.{err_from_is_err_and}
+use Rattle.cablegorse.specs.Questions.{group_asked, active_reply}
+use Rattle.cablegorse.proofs.Ranges.{first_out, last_out, both_in}
 use Rattle.cablegorse.proofs.questions.ask_group.Goals as goal
 
-pub returns-then-subject-ecu : goal.returns-then-subject-ecu
+pub returns-in_err-subject : goal.returns-in_err-subject
 unfolding group_asked
-returns-then-subject-ecu c = c.bad.ensures ∙ sym (cond_false _ _ _ (one_out c.args.subject 65535 c.args.ecu 255 c.if-subject-ecu.true))
+returns-in_err-subject c = let p = err_from_is_err_and c.from_residual.result c.from_residual.ensures.1 in rw (p.1, p.2) (first_out c.args.subject 65535 c.args.ecu 255 _ _ (omega (arith, c.in_err-subject.ensures)))
 
-pub overflow_cast-subject : goal.overflow_cast-subject
-overflow_cast-subject c = omega (arith, (both_in c.args.subject 65535 c.args.ecu 255 c.if-subject-ecu.false).0)
+pub returns-in_err-ecu : goal.returns-in_err-ecu
+unfolding group_asked
+returns-in_err-ecu c = let p = err_from_is_err_and c.from_residual-in_err-ecu.result c.from_residual-in_err-ecu.ensures.1 in rw (p.1, p.2) (last_out c.args.subject 65535 c.args.ecu 255 _ _ (omega (arith, c.in_err-ecu.ensures)))
 
-pub overflow_cast-ecu : goal.overflow_cast-ecu
-overflow_cast-ecu c = omega (arith, (both_in c.args.subject 65535 c.args.ecu 255 c.if-subject-ecu.false).1)
+pub returns-in_err-covering_functional_group : goal.returns-in_err-covering_functional_group
+unfolding group_asked active_reply
+returns-in_err-covering_functional_group c =
+    let p = err_from_is_err_and c.from_residual-in_err-covering_functional_group.result c.from_residual-in_err-covering_functional_group.ensures.1 in
+    rw (p.1, p.2) (ap active_reply (rw (c.in_ok-subject.ensures.1, c.in_ok-ecu.ensures.1) at c.in_err-covering_functional_group.ensures) ∙ both_in c.args.subject 65535 c.args.ecu 255 _ _ (omega (arith, c.in_ok-subject.ensures)) (omega (arith, c.in_ok-ecu.ensures)))
 
 pub returns : goal.returns
-unfolding group_asked
-returns c = c.of_active.ensures ∙ ap active_reply c.covering_functional_group.ensures ∙ sym (cond_true _ _ _ (both_test c.args.subject 65535 c.args.ecu 255 c.if-subject-ecu.false))
+unfolding group_asked active_reply
+returns c = c.into.ensures ∙ ap active_reply (rw (c.in_ok-subject.ensures.1, c.in_ok-ecu.ensures.1) at c.in_ok-covering_functional_group.ensures) ∙ both_in c.args.subject 65535 c.args.ecu 255 _ _ (omega (arith, c.in_ok-subject.ensures)) (omega (arith, c.in_ok-ecu.ensures))

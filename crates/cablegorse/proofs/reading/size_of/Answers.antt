@@ -1,24 +1,19 @@
-use native.Mathlib.Omega.{arith}
-use Rattle.lists.proofs.Loops.{length_of_mapped}
-use Rattle.image.proofs.Stores.{cap_small}
-use Rattle.cablegorse.proofs.Buffers.{size_none, size_active, size_defunct, size_ids}
-use borrow.Author.Rules.{rules}
+use mathlib.Core.Path.{sym}
+use Rattle.image.specs.Image.{active_list, defunct_list}
+use Rattle.image.proofs.Writes.{length_one, active_plain, defunct_plain}
+use Rattle.records.specs.Wire.{id_bytes}
+use Rattle.records.proofs.Runs.{length_all, length_id}
+use Rattle.cablegorse.specs.Replies.{bytes_of_body}
 use Rattle.cablegorse.proofs.reading.size_of.Goals as goal
 
-pub enum_told-1 : goal.enum_told-1
-enum_told-1 c = search rules
-
-pub overflow_mul-result : goal.overflow_mul-result
-overflow_mul-result c = omega (arith, cap_small c.in-Ids.n 64 c.at_most.result c.at_most.ensures)
-
-pub returns-in-Nothing : goal.returns-in-Nothing
-returns-in-Nothing c = size_none _ _ c.in-Nothing.is
-
 pub returns-in-Active : goal.returns-in-Active
-returns-in-Active c = size_active _ _ _ c.in-Active.is
+unfolding bytes_of_body
+returns-in-Active c = rw c.in-Active.is (sym (length_one active_list active_plain _))
 
 pub returns-in-Defunct : goal.returns-in-Defunct
-returns-in-Defunct c = size_defunct _ _ _ c.in-Defunct.is
+unfolding bytes_of_body
+returns-in-Defunct c = rw c.in-Defunct.is (sym (length_one defunct_list defunct_plain _))
 
 pub returns-in-Ids : goal.returns-in-Ids
-returns-in-Ids c = size_ids _ _ _ _ c.in-Ids.is (search (rules, length_of_mapped)) c.at_most.ensures
+unfolding bytes_of_body
+returns-in-Ids c = rw (c.in-Ids.is, ← c.first.ensures) (sym (length_all id_bytes 16 length_id _))

@@ -8,7 +8,7 @@ pub returns-then-not-is_applied : goal.returns-then-not-is_applied
 returns-then-not-is_applied c = let a = c.args in own_passed a.s a.due.now a.next.now a.removed.now a.expired.now a.sent.now _ c.is_applied.ensures c.if-not-is_applied.true-raw _ _ _ _ c.put_step.ensures
 
 pub returns-then-next-z : goal.returns-then-next-z
-returns-then-next-z c = let a = c.args in own_short a.s a.due.now a.next.now a.removed.now a.expired.now a.sent.now _ c.is_applied.ensures c.if-not-is_applied.false-raw _ c.sizes_in-z.ensures c.if-next-z.true _ c.four-short.ensures _ c.still.ensures
+returns-then-next-z c = let a = c.args in own_short a.s a.due.now a.next.now a.removed.now a.expired.now a.sent.now _ c.is_applied.ensures c.if-not-is_applied.false-raw _ c.sizes_in-z.ensures c.if-next-z.true _ c.new-short.ensures _ c.still.ensures
 
 pub copy-requires : goal.copy-requires
 copy-requires c =

@@ -1,6 +1,6 @@
 use mathlib.Core.Path.{sym, ap, ◌∙◌}
 use Prim.Native.Nat.{ℕ}
-use Rattle.cablegorse.specs.declared.sending.Asked.TheVariants.{Refused}
+use Rattle.std.specs.Prelude.{Err}
 use Rattle.cablegorse.specs.Sending.{asked_as}
 use Rattle.cablegorse.proofs.Asked.{no_kind}
 use Rattle.cablegorse.proofs.sending.request_in.Goals as goal
@@ -38,4 +38,4 @@ unfolding asked_as
 returns-in-23 c = ap (λ (k : ℕ). asked_as k c.args.asked) (sym c.in-23.is)
 
 pub returns-in_default : goal.returns-in_default
-returns-in_default c = let r = c.in_default.in_default-own.rest in ap Refused c.one.ensures ∙ no_kind _ _ r.0.0.0.0.0.0.0.1 r.0.0.0.0.0.0.1 r.0.0.0.0.0.1 r.0.0.0.0.1 r.0.0.0.1 r.0.0.1 r.0.1 r.1
+returns-in_default c = let r = c.in_default.in_default-own.rest in ap Err c.new.ensures ∙ no_kind _ _ r.0.0.0.0.0.0.0.1 r.0.0.0.0.0.0.1 r.0.0.0.0.0.1 r.0.0.0.0.1 r.0.0.0.1 r.0.0.1 r.0.1 r.1

@@ -1,5 +1,5 @@
 use mathlib.Core.Path.{sym, ap, ◌∙◌}
-use Rattle.coverage.specs.declared.Overlap.TheVariants.{Meets}
+use Rattle.std.specs.Prelude.{Some}
 use Rattle.coverage.proofs.Shared.{shared_apart, shared_spot}
 use Rattle.coverage.proofs.LockCoverage.overlaps.Goals as goal
 
@@ -8,4 +8,4 @@ returns-then-not-meets c = let o = c.args in sym (shared_apart o.self o.other (s
 
 pub returns : goal.returns
 returns c = let o = c.args in
-    ap Meets c.spot_of.ensures ∙ sym (shared_spot o.self o.other (sym c.meets.ensures ∙ c.if-not-meets.false))
+    ap Some c.spot_of.ensures ∙ sym (shared_spot o.self o.other (sym c.meets.ensures ∙ c.if-not-meets.false))

@@ -7,7 +7,7 @@ pub loop-place-init : goal.loop-place-init
 loop-place-init c = starts c.args.start c.args.chunk.now
 
 pub returns-then-stops : goal.returns-then-stops
-returns-then-stops c = halts c.args.start c.args.chunk.now _ _ _ _ c.loop-place.invariant c.loop-place-test.true _ c.step-s.ensures _ c.stops.ensures c.if-stops.true
+returns-then-stops c = rw c.why.ensures (halts c.args.start c.args.chunk.now _ _ _ _ c.loop-place.invariant c.loop-place-test.true _ c.step-s.ensures _ c.stops.ensures c.if-stops.true)
 
 pub overflow_add-read : goal.overflow_add-read
 overflow_add-read c = omega (arith, c.loop-place.invariant.few, c.loop-place-test.true, c.well_formed)

@@ -1,10 +1,6 @@
 use mathlib.Core.Path.{◌≡◌}
-use Prim.Native.Nat.{◌-◌}
 use Rattle.look.specs.Text.{edge_of}
 use Rattle.look.proofs.text.edge.Given as goal
 
 abbrev pub invariant-loop-e : goal.invariant-loop-e
 invariant-loop-e l = edge_of l.c l.inside l.e ≡ edge_of l.c l.inside l.from
-
-abbrev pub decreases-loop-e : goal.decreases-loop-e
-decreases-loop-e l = 256 - l.e

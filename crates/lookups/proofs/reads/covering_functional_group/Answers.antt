@@ -1,19 +1,12 @@
-use mathlib.Core.Path.{sym, ◌∙◌}
+use Rattle.std.proofs.Common.{rules}
 use Rattle.lookups.specs.Reads.{covering_group_on}
-use Rattle.lookups.proofs.Verdicts.{on_broken, on_sound_lem, actives_fit}
-use borrow.Author.Rules.{rules}
+use Rattle.lookups.proofs.Verdicts.{read_err, read_ok}
 use Rattle.lookups.proofs.reads.covering_functional_group.Goals as goal
 
-pub enum_told-1 : goal.enum_told-1
-enum_told-1 c = search rules
-
-pub find_group-requires : goal.find_group-requires
-find_group-requires c = actives_fit _ (sym c.broken-v.ensures ∙ c.in-Sound.is)
-
-pub returns-in-Broken : goal.returns-in-Broken
+pub returns-in_err-broken : goal.returns-in_err-broken
 unfolding covering_group_on
-returns-in-Broken c = on_broken _ _ _ _ _ c.broken-v.ensures c.in-Broken.is
+returns-in_err-broken c = search (rules, read_err)
 
-pub returns-in-Sound : goal.returns-in-Sound
+pub returns : goal.returns
 unfolding covering_group_on
-returns-in-Sound c = c.find_group.ensures ∙ on_sound_lem _ _ _ _ c.broken-v.ensures c.in-Sound.is
+returns c = search (rules, read_ok)

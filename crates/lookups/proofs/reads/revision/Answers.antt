@@ -1,15 +1,12 @@
+use Rattle.std.proofs.Common.{rules}
 use Rattle.lookups.specs.Reads.{revision_on}
-use Rattle.lookups.proofs.Verdicts.{on_broken, on_sound_lem}
-use borrow.Author.Rules.{rules}
+use Rattle.lookups.proofs.Verdicts.{read_err, read_ok}
 use Rattle.lookups.proofs.reads.revision.Goals as goal
 
-pub enum_told-1 : goal.enum_told-1
-enum_told-1 c = search rules
-
-pub returns-in-Broken : goal.returns-in-Broken
+pub returns-in_err-broken : goal.returns-in_err-broken
 unfolding revision_on
-returns-in-Broken c = on_broken _ _ _ _ _ c.broken-v.ensures c.in-Broken.is
+returns-in_err-broken c = search (rules, read_err)
 
-pub returns-in-Sound : goal.returns-in-Sound
+pub returns : goal.returns
 unfolding revision_on
-returns-in-Sound c = on_sound_lem _ _ _ _ c.broken-v.ensures c.in-Sound.is
+returns c = search (rules, read_ok)

@@ -1,19 +1,12 @@
-use mathlib.Core.Path.{sym, ◌∙◌}
+use Rattle.std.proofs.Common.{rules}
 use Rattle.lookups.specs.Reads.{tester_present_for_on}
-use Rattle.lookups.proofs.Verdicts.{on_broken, on_sound_lem, actives_fit}
-use borrow.Author.Rules.{rules}
+use Rattle.lookups.proofs.Verdicts.{read_err, read_ok}
 use Rattle.lookups.proofs.reads.tester_present_for.Goals as goal
 
-pub enum_told-1 : goal.enum_told-1
-enum_told-1 c = search rules
-
-pub present_for-requires : goal.present_for-requires
-present_for-requires c = actives_fit _ (sym c.broken-v.ensures ∙ c.in-Sound.is)
-
-pub returns-in-Broken : goal.returns-in-Broken
+pub returns-in_err-broken : goal.returns-in_err-broken
 unfolding tester_present_for_on
-returns-in-Broken c = on_broken _ _ _ _ _ c.broken-v.ensures c.in-Broken.is
+returns-in_err-broken c = search (rules, read_err)
 
-pub returns-in-Sound : goal.returns-in-Sound
+pub returns : goal.returns
 unfolding tester_present_for_on
-returns-in-Sound c = c.present_for.ensures ∙ on_sound_lem _ _ _ _ c.broken-v.ensures c.in-Sound.is
+returns c = search (rules, read_ok)

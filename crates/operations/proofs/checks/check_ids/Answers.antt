@@ -1,43 +1,34 @@
 use mathlib.Core.Path.{refl, sym, ◌∙◌}
 use native.Mathlib.Omega.{arith}
-use lib.ListN.{take}
 use Rattle.operations.specs.Code.{check_named}
-use Rattle.operations.proofs.Listing.{ids_none, ids_some, id_refused, id_passed}
+use Rattle.operations.proofs.Listing.{higher_id, lower_id, passed_id, end_id, refused, ids_none, ids_some}
 use Rattle.operations.proofs.Refusing.{refuses}
-use Rattle.ids.proofs.Words.{take_id, skip_id}
-use Rattle.operations.proofs.Listing.{higher_id, lowest_none, lowest_some}
 use Rattle.operations.proofs.checks.check_ids.Goals as goal
 
 pub loop-j-init : goal.loop-j-init
 loop-j-init c = (omega arith, omega arith, refl)
 
-pub check_named-a-requires : goal.check_named-a-requires
-check_named-a-requires c = omega (arith, c.requires)
-
-pub loop-j-preserved-then-not-is_done : goal.loop-j-preserved-then-not-is_done
-loop-j-preserved-then-not-is_done c =
-    let l = c.loop-j in
-    (omega arith, omega arith, sym (take_id (refuses (check_named c.args.child (take c.args.n c.args.locks))) c.args.list.now l.found l.best l.j (omega (arith, l.invariant.0, l.invariant.1, c.loop-j-test.true)) (id_refused _ _ c.args.list.now _ _ c.check_named-a.ensures _ c.is_done.ensures c.if-not-is_done.true-raw) _ c.less.ensures c.if-found-less.true) ∙ l.invariant.2)
-
-pub loop-j-preserved-else-not-is_done : goal.loop-j-preserved-else-not-is_done
-loop-j-preserved-else-not-is_done c =
-    let l = c.loop-j in
-    (omega arith, omega arith, sym (skip_id (refuses (check_named c.args.child (take c.args.n c.args.locks))) c.args.list.now l.found l.best l.j (omega (arith, l.invariant.0, l.invariant.1, c.loop-j-test.true)) (id_passed _ _ c.args.list.now _ _ c.check_named-a.ensures _ c.is_done.ensures c.if-not-is_done.false-raw)) ∙ l.invariant.2)
-
 pub loop-j-preserved : goal.loop-j-preserved
 loop-j-preserved c =
     let l = c.loop-j in
-    (omega arith, omega arith, sym (higher_id (refuses (check_named c.args.child (take c.args.n c.args.locks))) c.args.list.now l.found l.best l.j (omega (arith, l.invariant.0, l.invariant.1, c.loop-j-test.true)) _ c.less.ensures c.if-found-less.false) ∙ l.invariant.2)
+    (omega arith, refl, sym (higher_id (refuses (check_named c.args.child c.args.locks.now)) c.args.list.now l.lowest l.j (omega arith) (sym c.is_lower.ensures ∙ c.if-is_lower.false)) ∙ l.invariant.2)
 
-pub returns-then-not-found : goal.returns-then-not-found
-returns-then-not-found c =
+pub loop-j-preserved-then-is_err : goal.loop-j-preserved-then-is_err
+loop-j-preserved-then-is_err c =
     let l = c.loop-j in
-    ids_none c.args.child (take c.args.n c.args.locks) c.args.list.now (lowest_none (refuses (check_named c.args.child (take c.args.n c.args.locks))) c.args.list.now l.found l.best l.j (omega arith) l.invariant.2 c.if-not-found.true)
+    (omega arith, refl, sym (lower_id (refuses (check_named c.args.child c.args.locks.now)) c.args.list.now l.lowest l.j (omega arith) (refused c.args.child c.args.locks.now _ _ c.check_named-told.ensures (sym c.is_err.ensures.value ∙ c.if-is_err.true)) (sym c.is_lower.ensures ∙ c.if-is_lower.true)) ∙ l.invariant.2)
 
-pub check_named-requires : goal.check_named-requires
-check_named-requires c = omega (arith, c.requires)
-
-pub returns : goal.returns
-returns c =
+pub loop-j-preserved-else-is_err : goal.loop-j-preserved-else-is_err
+loop-j-preserved-else-is_err c =
     let l = c.loop-j in
-    ids_some c.args.child (take c.args.n c.args.locks) c.args.list.now l.best _ (lowest_some (refuses (check_named c.args.child (take c.args.n c.args.locks))) c.args.list.now l.found l.best l.j (omega arith) l.invariant.2 c.if-not-found.false) c.check_named.ensures
+    (omega arith, refl, sym (passed_id (refuses (check_named c.args.child c.args.locks.now)) c.args.list.now l.lowest l.j (omega arith) (refused c.args.child c.args.locks.now _ _ c.check_named-told.ensures (sym c.is_err.ensures.value ∙ c.if-is_err.false))) ∙ l.invariant.2)
+
+pub returns-in-None : goal.returns-in-None
+returns-in-None c =
+    let l = c.loop-j in
+    ids_none c.args.child c.args.locks.now c.args.list.now (sym l.invariant.2 ∙ end_id (refuses (check_named c.args.child c.args.locks.now)) c.args.list.now l.lowest l.j (omega arith) ∙ c.in-None.is)
+
+pub returns-in-Some : goal.returns-in-Some
+returns-in-Some c =
+    let l = c.loop-j in
+    ids_some c.args.child c.args.locks.now c.args.list.now _ _ (sym l.invariant.2 ∙ end_id (refuses (check_named c.args.child c.args.locks.now)) c.args.list.now l.lowest l.j (omega arith) ∙ c.in-Some.is) c.check_named.ensures

@@ -1,44 +1,31 @@
-use mathlib.Core.Path.{◌≡◌, refl, sym, ap, ◌∙◌}
-use Prim.Native.Nat.{◌≤◌}
-use native.Mathlib.Omega.{arith}
-use borrow.Author.Rules.{rules}
-use lib.ListN.{length}
-use Rattle.lists.proofs.Loops.{length_of_mapped}
+use mathlib.Core.Path.{refl, sym, ◌∙◌}
 use Rattle.state.specs.Locks.{blank_active}
-use Rattle.operations.specs.Answers.{is_done}
+use Rattle.operations.specs.Trees.{is_listed}
 use Rattle.operations.specs.Checks.{check_child}
-use Rattle.operations.proofs.Refusing.{marked_refused, marked_passed, marked_not, marked_none}
+use Rattle.operations.proofs.Chains.{stop_at, pass_on}
+use Rattle.operations.proofs.Refusing.{picked, not_picked, none_left}
 use Rattle.operations.proofs.checks.check_taken.Goals as goal
-use Rattle.operations.proofs.checks.check_taken.Goals.{Start}
+use Rattle.operations.proofs.checks.check_taken.Goals.{then-listed+in_ok-check_child, else-listed}
 
-long : (c : Start) → c.args.n ≤ length c.args.locks
-long c = let e : length c.args.locks ≡ 64 = search (rules, length_of_mapped) in omega arith
-
-marks : (c : Start) → c.args.n ≤ length c.args.takes
-marks c = let e : length c.args.takes ≡ 64 = search rules in omega arith
-
-pub loop-i-init : goal.loop-i-init
-loop-i-init c = (omega arith, refl)
-
-pub returns-then-not-is_done : goal.returns-then-not-is_done
+pub returns-in_err-check_child : goal.returns-in_err-check_child
 unfolding blank_active
-returns-then-not-is_done c =
-    let l = c.loop-i in
-    c.check_child-told.ensures
-    ∙ sym (marked_refused (check_child c.args.new) c.args.takes c.args.locks c.args.n l.i blank_active c.loop-i-test.true (marks (goal.at.returns-then-not-is_done c).Start) (long (goal.at.returns-then-not-is_done c).Start) c.if-b.true (ap is_done (sym c.check_child-told.ensures) ∙ sym c.is_done.ensures ∙ c.if-not-is_done.true))
-    ∙ l.invariant.1
+returns-in_err-check_child c =
+    stop_at _ _ c.from_residual.ensures.1 _ _ _ c.check_child.ensures c.in_err-check_child.was
+    ∙ sym (picked (check_child c.args.new) (is_listed c.args.list.now) c.args.locks.now c.loop-a.a-index blank_active c.loop-a-test.true (sym c.listed.ensures ∙ c.if-listed.true))
+    ∙ c.loop-a.invariant
 
-pub loop-i-preserved-else-not-is_done : goal.loop-i-preserved-else-not-is_done
+pub loop-a-preserved : goal.loop-a-preserved
 unfolding blank_active
-loop-i-preserved-else-not-is_done c =
-    let l = c.loop-i in
-    (omega arith, sym (marked_passed (check_child c.args.new) c.args.takes c.args.locks c.args.n l.i blank_active c.loop-i-test.true (marks (goal.at.loop-i-preserved-else-not-is_done c).Start) (long (goal.at.loop-i-preserved-else-not-is_done c).Start) c.if-b.true (ap is_done (sym c.check_child-told.ensures) ∙ sym c.is_done.ensures ∙ c.if-not-is_done.false)) ∙ l.invariant.1)
-
-pub loop-i-preserved : goal.loop-i-preserved
-unfolding blank_active
-loop-i-preserved c =
-    let l = c.loop-i in
-    (omega arith, sym (marked_not (check_child c.args.new) c.args.takes c.args.locks c.args.n l.i blank_active c.loop-i-test.true (marks (goal.at.loop-i-preserved c).Start) (long (goal.at.loop-i-preserved c).Start) c.if-b.false) ∙ l.invariant.1)
+loop-a-preserved c =
+    elim c.if-listed.branch [
+      | then-listed+in_ok-check_child w ↦
+          pass_on _ _ _ w.check_child.ensures w.in_ok-check_child.was refl
+          ∙ sym (picked (check_child c.args.new) (is_listed c.args.list.now) c.args.locks.now c.loop-a.a-index blank_active c.loop-a-test.true (sym c.listed.ensures ∙ w.if-listed.true))
+          ∙ c.loop-a.invariant
+      | else-listed w ↦
+          sym (not_picked (check_child c.args.new) (is_listed c.args.list.now) c.args.locks.now c.loop-a.a-index blank_active c.loop-a-test.true (sym c.listed.ensures ∙ w.if-listed.false))
+          ∙ c.loop-a.invariant
+    ]
 
 pub returns : goal.returns
-returns c = sym (marked_none _ _ _ _ _ c.loop-i.invariant.0 c.loop-i-test.false) ∙ c.loop-i.invariant.1
+returns c = sym (none_left (check_child c.args.new) (is_listed c.args.list.now) c.args.locks.now c.loop-a.a-index c.loop-a.auto.a-index-end c.loop-a-test.false) ∙ c.loop-a.invariant

@@ -1,22 +1,23 @@
-use mathlib.Core.Path.{refl, ◌∙◌}
+use mathlib.Core.Path.{◌≡◌, ap, ◌∙◌}
 use native.Mathlib.Omega.{arith}
-use lib.ListN.{length-set}
+use Prim.Native.Nat.{ℕ}
+use lib.ListN.{length, get_or, length-set}
 use Rattle.lists.proofs.Places.{fill_more_of}
-use Rattle.rules.specs.Code.{key_at, Sought}
-use Rattle.rules.proofs.Search.{sought_id}
+use Rattle.ids.specs.Order.{key}
+use Rattle.state.specs.Locks.{blank_defunct}
+use Rattle.rules.specs.Rules.{find_d}
+use Rattle.operations.specs.declared.defuncts.Gone.{Gone}
+use Rattle.operations.specs.Code.{entry_at}
+use Rattle.operations.proofs.Landing.{gone_at, gone_count, sought}
 use Rattle.operations.proofs.defuncts.steps.Goals as goal
-
-pub loop-i-init : goal.loop-i-init
-loop-i-init c = (omega arith, refl, λ j h. absurd (omega arith))
 
 pub loop-i-preserved : goal.loop-i-preserved
 loop-i-preserved c =
-    let p = c.args in (
-      omega arith,
-      length-set c.loop-i.out c.loop-i.i c.place-k.result ∙ c.loop-i.invariant.1,
-      fill_more_of (λ k r. Sought (key_at p.list.now) p.n (key_at p.targets.now k) r) c.loop-i.out c.loop-i.i c.place-k.result 0 (omega arith)
-          (sought_id (key_at p.list.now) p.n c.place-k.result _ _ c.place-k.ensures c.id_at.ensures) c.loop-i.invariant.2,
+    let l = c.loop-i in
+    let gone = c.args.gone.now in (
+      simp length-set l.invariant.0,
+      λ t e o.
+          fill_more_of (λ j v. entry_at t v ≡ find_d t (key (get_or t j blank_defunct).target)) l.out l.i c.unwrap_or.result 0 (omega arith)
+          (sought t gone e o _ _ c.place.ensures _ c.unwrap_or.ensures ∙ ap (λ (g : Gone). find_d t (key g.target)) (gone_at t gone e l.i _ c.loop-i-test.true))
+          (l.invariant.1 t e o),
     )
-
-pub returns : goal.returns
-returns c = (c.loop-i.invariant.1, λ i h. c.loop-i.invariant.2 i (omega arith))

@@ -1,36 +1,26 @@
-use mathlib.Core.Path.{◌≡◌, refl}
+use mathlib.Core.Path.{◌≡◌, refl, sym, ◌∙◌}
+use mathlib.Core.List.{append-nil}
 use native.Mathlib.Omega.{arith}
-use borrow.Author.Rules.{rules}
-use lib.ListN.{length}
-use Rattle.lists.proofs.Loops.{length_of_mapped}
+use lib.ListN.{length, get_or}
+use lib.Seq.{take-length, drop-length}
+use Rattle.lists.proofs.Tests.{cond_true, cond_false}
 use Rattle.state.specs.Locks.{blank_active}
-use Rattle.operations.specs.Vehicle.{nest}
-use Rattle.operations.proofs.Flags.{change_yes, change_no}
+use Rattle.operations.specs.Vehicle.{adopt}
+use Rattle.operations.proofs.Adopting.{place_changed}
 use Rattle.operations.proofs.insert_vehicle.taken_in.Goals as goal
-use Rattle.operations.proofs.insert_vehicle.taken_in.Goals.{Start}
+use Rattle.operations.proofs.insert_vehicle.taken_in.Goals.{then-takes, else-takes}
 
-long : (c : Start) → length c.args.l ≡ 64
-long c = search (rules, length_of_mapped)
-
-marks : (c : Start) → length c.args.takes ≡ 64
-marks c = search rules
-
-pub loop-i-init : goal.loop-i-init
-loop-i-init c = (omega arith, refl)
-
-pub loop-i-preserved-then-takes-k : goal.loop-i-preserved-then-takes-k
-unfolding blank_active
-loop-i-preserved-then-takes-k c =
-    let l = c.loop-i in
-    (omega arith, change_yes (nest c.args.x) c.args.takes c.args.l l.l l.i blank_active (omega (arith, marks (goal.at.loop-i-preserved-then-takes-k c).Start)) (omega (arith, long (goal.at.loop-i-preserved-then-takes-k c).Start)) l.invariant.1 c.if-takes-k.true _ c.nested.ensures)
-
-pub loop-i-preserved : goal.loop-i-preserved
-unfolding blank_active
-loop-i-preserved c =
-    let l = c.loop-i in
-    (omega arith, change_no (nest c.args.x) c.args.takes c.args.l l.l l.i blank_active (omega (arith, marks (goal.at.loop-i-preserved c).Start)) (omega (arith, long (goal.at.loop-i-preserved c).Start)) l.invariant.1 c.if-takes-k.false)
+pub loop-a-preserved : goal.loop-a-preserved
+unfolding adopt blank_active
+loop-a-preserved g c = λ p t.
+    let l = c.loop-a in
+    let e : c.takes.result ≡ p (get_or l.locks l.a-index blank_active) = t _ _ (record { shown = _; shows = refl; says = record { met = c.takes.ensures } }) in
+    elim c.if-takes.branch [
+      | then-takes w ↦ w.locks-is ∙ place_changed (adopt p c.args.new) c.args.locks.now l.locks l.a-index c.loop-a-test.true (l.invariant p t) _ (w.nested.ensures ∙ sym (cond_true _ _ _ (sym e ∙ w.if-takes.true)))
+      | else-takes w ↦ rw w.locks-is (place_changed (adopt p c.args.new) c.args.locks.now l.locks l.a-index c.loop-a-test.true (l.invariant p t) _ (sym (cond_false _ _ _ (sym e ∙ w.if-takes.false))))
+    ]
 
 pub returns : goal.returns
-returns c =
-    let e : c.loop-i.i ≡ c.args.n = omega arith in
-    rw e at c.loop-i.invariant.1
+returns g c = λ p t.
+    let e : c.loop-a.a-index ≡ length c.args.locks.now = omega arith in
+    c.loop-a.invariant p t ∙ rw (e, take-length, drop-length, append-nil)

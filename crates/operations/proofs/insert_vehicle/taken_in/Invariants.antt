@@ -1,12 +1,12 @@
+use mathlib.Core.Bool.{Bool}
 use mathlib.Core.Path.{◌≡◌}
-use Prim.Native.Nat.{◌≤◌, ◌-◌}
-use lib.ListN.{take}
-use Rattle.operations.specs.Vehicle.{nest}
-use Rattle.operations.specs.Code.{altered}
+use mathlib.Core.List.{map, ◌++◌}
+use lib.ListN.{take, drop}
+use Rattle.std.specs.Fn.{FnReturnsAt}
+use Rattle.state.specs.declared.ActiveLock.{ActiveLock}
+use Rattle.operations.specs.Vehicle.{adopt}
+use Rattle.operations.specs.Code.{Tells}
 use Rattle.operations.proofs.insert_vehicle.taken_in.Given as goal
 
-abbrev pub invariant-loop-i : goal.invariant-loop-i
-invariant-loop-i s = (s.i ≤ s.n) × (s.l ≡ altered (nest s.x) (take s.i s.takes) s.initial.l)
-
-abbrev pub decreases-loop-i : goal.decreases-loop-i
-decreases-loop-i l = l.n - l.i
+abbrev pub invariant-loop-a : goal.invariant-loop-a
+invariant-loop-a g l = (p : ActiveLock → Bool) → Tells (FnReturnsAt g.F.Fn l.takes) p → l.locks ≡ map (adopt p l.new) (take l.a-index l.fn.locks) ++ drop l.a-index l.fn.locks

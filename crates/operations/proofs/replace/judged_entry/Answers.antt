@@ -1,29 +1,29 @@
 use mathlib.Core.Path.{◌∙◌}
+use Rattle.lookups.proofs.Verdicts.{on_sound_lem}
 use Rattle.operations.specs.Code.{check_entry, check_named}
-use Rattle.operations.proofs.Chains.{stop, pass}
+use Rattle.operations.proofs.Chains.{stop_at, pass_on}
 use Rattle.operations.proofs.replace.judged_entry.Goals as goal
 
-pub returns-then-not-is_done : goal.returns-then-not-is_done
+pub returns-in_err-check_ids : goal.returns-in_err-check_ids
 unfolding check_entry check_named
-returns-then-not-is_done c = stop _ _ _ c.check_list-a.ensures _ c.is_done.ensures c.if-not-is_done.true-raw
+returns-in_err-check_ids c =
+    pass_on _ _ _ c.check_list.ensures c.in_ok-check_list.was
+    (stop_at _ _ c.from_residual-in_err-check_ids.ensures.1 _ _ _ (rw c.active_locks-locks.ensures at c.check_ids.ensures) c.in_err-check_ids.was)
+    ∙ on_sound_lem c.args.s.now _ _ _ c.broken.ensures c.in_ok-broken.was
 
-pub check_ids-b-requires : goal.check_ids-b-requires
-check_ids-b-requires c = c.requires.0
-
-pub returns-then-not-is_done-2 : goal.returns-then-not-is_done-2
+pub returns-in_err-check_id : goal.returns-in_err-check_id
 unfolding check_entry check_named
-returns-then-not-is_done-2 c = stop _ _ _ c.check_ids-b.ensures _ c.is_done-2.ensures c.if-not-is_done-2.true-raw ∙ pass _ _ _ c.check_list-a.ensures _ c.is_done.ensures c.if-not-is_done.false-raw
-
-pub check_id-d-requires : goal.check_id-d-requires
-check_id-d-requires c = c.requires
-
-pub returns-then-not-is_done-3 : goal.returns-then-not-is_done-3
-unfolding check_entry check_named
-returns-then-not-is_done-3 c = stop _ _ _ c.check_id-d.ensures _ c.is_done-3.ensures c.if-not-is_done-3.true-raw ∙ pass _ _ _ c.check_ids-b.ensures _ c.is_done-2.ensures c.if-not-is_done-2.false-raw ∙ pass _ _ _ c.check_list-a.ensures _ c.is_done.ensures c.if-not-is_done.false-raw
-
-pub check_holder-requires : goal.check_holder-requires
-check_holder-requires c = c.requires.0
+returns-in_err-check_id c =
+    pass_on _ _ _ c.check_list.ensures c.in_ok-check_list.was
+    (pass_on _ _ _ (rw c.active_locks-locks.ensures at c.check_ids.ensures) c.in_ok-check_ids.was
+    (stop_at _ _ c.from_residual-in_err-check_id.ensures.1 _ _ _ (rw (c.active_locks-locks.ensures, c.defunct_locks.ensures) at c.check_id.ensures) c.in_err-check_id.was))
+    ∙ on_sound_lem c.args.s.now _ _ _ c.broken.ensures c.in_ok-broken.was
 
 pub returns : goal.returns
 unfolding check_entry check_named
-returns c = c.check_holder.ensures ∙ pass _ _ _ c.check_id-d.ensures _ c.is_done-3.ensures c.if-not-is_done-3.false-raw ∙ pass _ _ _ c.check_ids-b.ensures _ c.is_done-2.ensures c.if-not-is_done-2.false-raw ∙ pass _ _ _ c.check_list-a.ensures _ c.is_done.ensures c.if-not-is_done.false-raw
+returns c =
+    pass_on _ _ _ c.check_list.ensures c.in_ok-check_list.was
+    (pass_on _ _ _ (rw c.active_locks-locks.ensures at c.check_ids.ensures) c.in_ok-check_ids.was
+    (pass_on _ _ _ (rw (c.active_locks-locks.ensures, c.defunct_locks.ensures) at c.check_id.ensures) c.in_ok-check_id.was
+    (rw c.active_locks-locks.ensures at c.check_holder.ensures)))
+    ∙ on_sound_lem c.args.s.now _ _ _ c.broken.ensures c.in_ok-broken.was

@@ -1,49 +1,39 @@
-use mathlib.Core.Path.{◌≡◌, refl, sym, ap, ◌∙◌}
-use Prim.Native.Nat.{◌≤◌}
-use native.Mathlib.Omega.{arith}
-use borrow.Author.Rules.{rules}
-use lib.ListN.{length}
-use Rattle.lists.proofs.Loops.{length_of_mapped}
+use mathlib.Core.Path.{refl, sym, ◌∙◌}
 use Rattle.state.specs.Locks.{blank_active}
-use Rattle.operations.specs.Answers.{is_done}
 use Rattle.operations.specs.Checks.{check_child}
 use Rattle.operations.specs.Replace.{orphan}
-use Rattle.operations.proofs.Chains.{stop, pass}
-use Rattle.operations.proofs.Joining.{picked_refused, picked_passed, picked_not, picked_none}
+use Rattle.operations.proofs.Chains.{stop_at, pass_on}
+use Rattle.operations.proofs.Refusing.{picked, not_picked, none_left}
 use Rattle.operations.proofs.replace.judged_left.Goals as goal
-use Rattle.operations.proofs.replace.judged_left.Goals.{Start}
+use Rattle.operations.proofs.replace.judged_left.Goals.{then-is_orphan+in_ok-check_child, else-is_orphan}
 
-long : (c : Start) → c.args.n ≤ length c.args.locks
-long c = let e : length c.args.locks ≡ 64 = search (rules, length_of_mapped) in omega arith
+pub loop-a-init : goal.loop-a-init
+loop-a-init c = refl
 
-pub returns-then-not-is_done : goal.returns-then-not-is_done
-returns-then-not-is_done c = stop _ _ _ c.check_insert-a.ensures _ c.is_done.ensures c.if-not-is_done.true-raw
-
-pub returns-then-not-is_done-2 : goal.returns-then-not-is_done-2
-returns-then-not-is_done-2 c = stop _ _ _ c.check_revision-b.ensures _ c.is_done-2.ensures c.if-not-is_done-2.true-raw ∙ pass _ _ _ c.check_insert-a.ensures _ c.is_done.ensures c.if-not-is_done.false-raw
-
-pub loop-i-init : goal.loop-i-init
-loop-i-init c = (omega arith, refl)
-
-pub returns-then-not-is_done-3 : goal.returns-then-not-is_done-3
+pub returns-in_err-check_child : goal.returns-in_err-check_child
 unfolding blank_active
-returns-then-not-is_done-3 c =
-    let l = c.loop-i in
-    c.check_child-told.ensures
-    ∙ sym (picked_refused (check_child c.args.new) (orphan c.args.new) c.args.locks c.args.n l.i blank_active c.loop-i-test.true (long (goal.at.returns-then-not-is_done-3 c).Start) (sym c.is_orphan.ensures ∙ c.if-is_orphan.true) (ap is_done (sym c.check_child-told.ensures) ∙ sym c.is_done-then-is_orphan.ensures ∙ c.if-not-is_done-3.true))
-    ∙ l.invariant.1 ∙ pass _ _ _ c.check_revision-b.ensures _ c.is_done-2.ensures c.if-not-is_done-2.false-raw ∙ pass _ _ _ c.check_insert-a.ensures _ c.is_done.ensures c.if-not-is_done.false-raw
+returns-in_err-check_child c =
+    pass_on _ _ _ c.check_insert.ensures c.in_ok-check_insert.was
+    (pass_on _ _ _ c.check_revision.ensures c.in_ok-check_revision.was
+    (stop_at _ _ c.from_residual-in_err-check_child.ensures.1 _ _ _ c.check_child.ensures c.in_err-check_child.was
+    ∙ sym (picked (check_child c.args.new) (orphan c.args.new) c.args.locks.now c.loop-a.a-index blank_active c.loop-a-test.true (sym c.is_orphan.ensures ∙ c.if-is_orphan.true))
+    ∙ c.loop-a.invariant))
 
-pub loop-i-preserved-else-not-is_done-3 : goal.loop-i-preserved-else-not-is_done-3
+pub loop-a-preserved : goal.loop-a-preserved
 unfolding blank_active
-loop-i-preserved-else-not-is_done-3 c =
-    let l = c.loop-i in
-    (omega arith, sym (picked_passed (check_child c.args.new) (orphan c.args.new) c.args.locks c.args.n l.i blank_active c.loop-i-test.true (long (goal.at.loop-i-preserved-else-not-is_done-3 c).Start) (sym c.is_orphan.ensures ∙ c.if-is_orphan.true) (ap is_done (sym c.check_child-told.ensures) ∙ sym c.is_done-then-is_orphan.ensures ∙ c.if-not-is_done-3.false)) ∙ l.invariant.1)
-
-pub loop-i-preserved : goal.loop-i-preserved
-unfolding blank_active
-loop-i-preserved c =
-    let l = c.loop-i in
-    (omega arith, sym (picked_not (check_child c.args.new) (orphan c.args.new) c.args.locks c.args.n l.i blank_active c.loop-i-test.true (long (goal.at.loop-i-preserved c).Start) (sym c.is_orphan.ensures ∙ c.if-is_orphan.false)) ∙ l.invariant.1)
+loop-a-preserved c =
+    elim c.if-is_orphan.branch [
+      | then-is_orphan+in_ok-check_child w ↦
+          pass_on _ _ _ w.check_child.ensures w.in_ok-check_child.was refl
+          ∙ sym (picked (check_child c.args.new) (orphan c.args.new) c.args.locks.now c.loop-a.a-index blank_active c.loop-a-test.true (sym c.is_orphan.ensures ∙ w.if-is_orphan.true))
+          ∙ c.loop-a.invariant
+      | else-is_orphan w ↦
+          sym (not_picked (check_child c.args.new) (orphan c.args.new) c.args.locks.now c.loop-a.a-index blank_active c.loop-a-test.true (sym c.is_orphan.ensures ∙ w.if-is_orphan.false))
+          ∙ c.loop-a.invariant
+    ]
 
 pub returns : goal.returns
-returns c = sym (picked_none _ _ _ _ _ c.loop-i.invariant.0 c.loop-i-test.false) ∙ c.loop-i.invariant.1 ∙ pass _ _ _ c.check_revision-b.ensures _ c.is_done-2.ensures c.if-not-is_done-2.false-raw ∙ pass _ _ _ c.check_insert-a.ensures _ c.is_done.ensures c.if-not-is_done.false-raw
+returns c =
+    pass_on _ _ _ c.check_insert.ensures c.in_ok-check_insert.was
+    (pass_on _ _ _ c.check_revision.ensures c.in_ok-check_revision.was
+    (sym (none_left (check_child c.args.new) (orphan c.args.new) c.args.locks.now c.loop-a.a-index c.loop-a.auto.a-index-end c.loop-a-test.false) ∙ c.loop-a.invariant))

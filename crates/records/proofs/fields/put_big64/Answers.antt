@@ -1,6 +1,8 @@
-use Rattle.records.proofs.Numbers.{swap_put}
-use mathlib.Core.Path.{refl}
+use mathlib.Core.Path.{ap, ◌∙◌}
+use Rattle.records.specs.Numbers.{splice, bytes_of}
+use Rattle.records.proofs.Numbers.{high_bytes}
 use Rattle.records.proofs.fields.put_big64.Goals as goal
 
 pub returns : goal.returns
-returns c = rw (c.put_u64.ensures, c.swapped64.ensures, swap_put 8 c.args.v) refl
+unfolding bytes_of
+returns c = c.put.ensures ∙ ap (splice c.args.out.now c.args.at) (c.to_be_bytes.ensures ∙ high_bytes 8 c.args.v)

@@ -1,9 +1,8 @@
-use Rattle.records.proofs.Numbers.{little_put}
-use native.Mathlib.Omega.{arith}
+use mathlib.Core.Path.{ap, ◌∙◌}
+use Rattle.records.specs.Numbers.{splice, bytes_of}
+use Rattle.records.proofs.Numbers.{low_bytes}
 use Rattle.records.proofs.fields.put_u32.Goals as goal
 
 pub returns : goal.returns
-returns c =
-    let a = c.args in
-    rw (c.put_u16-2.ensures, c.put_u16.ensures)
-    (little_put 2 2 a.out.now a.at a.v (omega (arith, c.requires)))
+unfolding bytes_of
+returns c = c.put.ensures ∙ ap (splice c.args.out.now c.args.at) (c.to_le_bytes.ensures ∙ low_bytes 4 c.args.v)

@@ -1,9 +1,6 @@
-use Rattle.records.proofs.Numbers.{little_add}
-use native.Mathlib.Omega.{arith}
-use borrow.Author.Rules.{rules}
+use mathlib.Core.Path.{◌∙◌}
+use Rattle.records.proofs.Numbers.{low_read}
 use Rattle.records.proofs.fields.u32_at.Goals as goal
 
 pub returns : goal.returns
-returns c =
-    let a = c.args in
-    omega (arith, c.u16_at.ensures, c.u16_at-2.ensures, little_add 2 2 a.s.now a.at (search rules))
+returns c = c.from_le_bytes.ensures ∙ low_read 3 c.args.s.now c.args.at _ c.bytes_at.ensures c.requires

@@ -1,14 +1,10 @@
 use Rattle.records.specs.Table.{length_of}
-use borrow.Author.Rules.{rules}
 use Rattle.records.proofs.kinds.length_of.Goals as goal
 
-pub enum_told-1 : goal.enum_told-1
-enum_told-1 c = search rules
-
-pub returns-in-Known : goal.returns-in-Known
+pub returns-in-Some : goal.returns-in-Some
 unfolding length_of
-returns-in-Known c = rw (← c.row_of.ensures, c.in-Known.is)
+returns-in-Some c = rw (← c.row_of.ensures, c.in-Some.is)
 
-pub returns-in-Unknown : goal.returns-in-Unknown
+pub returns-in-None : goal.returns-in-None
 unfolding length_of
-returns-in-Unknown c = rw (← c.row_of.ensures, c.in-Unknown.is)
+returns-in-None c = rw (← c.row_of.ensures, c.in-None.is)

@@ -1,41 +1,39 @@
-use mathlib.Core.Path.{◌≡◌, refl, sym, ◌∙◌}
+use mathlib.Core.Path.{◌≡◌, refl, sym, ◌∙◌, subst}
 use mathlib.Core.Bool.{true}
+use mathlib.Core.List.{[]}
+use Prim.Native.Nat.{ℕ}
 use native.Mathlib.Omega.{arith}
-use borrow.Author.Count.{below_more}
-use Rattle.lists.specs.Tests.{non}
 use Rattle.lists.specs.Below.{all_below}
-use Rattle.lists.proofs.Below.{all_of, all_no}
-use Rattle.rules.specs.Code.{clash_at}
-use Rattle.rules.proofs.Clash.{before_more}
+use Rattle.lists.proofs.Below.{all_no}
+use Rattle.state.specs.Locks.{blank_active}
+use Rattle.rules.specs.Code.{lists}
+use Rattle.rules.proofs.Keys.{one_more}
+use Rattle.rules.proofs.Clash.{clear_at, lone_vehicle, kept_none, kept_vehicle, kept_more}
+use Rattle.rules.proofs.Family.{eight_law}
 use Rattle.rules.proofs.covers.friends.Goals as goal
 
 pub loop-i-init : goal.loop-i-init
-loop-i-init c = (omega arith, record { friends = λ t j h. absurd (omega arith); covered = λ j h. absurd (omega arith) }, λ k h. absurd (omega arith))
+unfolding all_below
+loop-i-init c = (kept_none _ _, refl)
 
-pub settled-requires : goal.settled-requires
-settled-requires c = (omega arith, omega arith, omega arith, omega arith, c.loop-i.invariant.1)
-
-pub returns-then-not-settled : goal.returns-then-not-settled
-returns-then-not-settled c =
-    let o = c.before.before.before in
-    let p = o.args in
-    sym (all_no p.n (λ i. all_below i (λ j. non (clash_at p.words.now p.whole.now p.scopes.now p.subjects.now i j))) o.loop-i.i c.loop-i-test.true
-    (sym c.settled.ensures ∙ c.if-not-settled.true))
-
-pub cover_at-x-requires : goal.cover_at-x-requires
-cover_at-x-requires c = (omega arith, omega arith)
-
-pub loop-i-preserved : goal.loop-i-preserved
-loop-i-preserved c =
-    let o = c.before.before.before.before.before.before.before.before in
-    let p = o.args in (
-      omega arith,
-      before_more p.words.now p.whole.now p.scopes.now p.subjects.now o.loop-i.i o.loop-i.same o.loop-i.all o.loop-i.invariant.1 _ _ _ refl c.cover_at-x.ensures c.grown-all.ensures,
-      below_more (λ k. all_below k (λ j. non (clash_at p.words.now p.whole.now p.scopes.now p.subjects.now k j)) ≡ true) o.loop-i.i o.loop-i.invariant.2 (sym c.settled.ensures ∙ c.if-not-settled.false),
+pub loop-i-preserved-then-is_vehicle : goal.loop-i-preserved-then-is_vehicle
+unfolding blank_active
+loop-i-preserved-then-is_vehicle c =
+    let v = sym c.is_vehicle.ensures ∙ c.if-is_vehicle.true in (
+      kept_vehicle c.args.active.now c.loop-i.i c.loop-i-test.true _ _ _ c.loop-i.invariant.0 v,
+      one_more c.loop-i.i (clear_at c.args.active.now) c.loop-i.invariant.1 (lone_vehicle _ _ v),
     )
 
+pub returns-then-not-settled : goal.returns-then-not-settled
+unfolding blank_active
+returns-then-not-settled c = sym (eight_law (lists c.args.active.now []) ∙ all_no _ (clear_at c.args.active.now) c.loop-i.i c.loop-i-test.true (sym c.settled.ensures ∙ c.if-not-settled.true))
+
+pub loop-i-preserved : goal.loop-i-preserved
+unfolding blank_active
+loop-i-preserved c = (
+  kept_more c.args.active.now c.loop-i.i c.loop-i-test.true _ _ _ c.loop-i.invariant.0 c.union-set.result c.union-set.ensures,
+  one_more c.loop-i.i (clear_at c.args.active.now) c.loop-i.invariant.1 (sym c.settled.ensures ∙ c.if-not-settled.false),
+)
+
 pub returns : goal.returns
-returns c =
-    let o = c.before in
-    let p = o.args in
-    sym (all_of p.n (λ i. all_below i (λ j. non (clash_at p.words.now p.whole.now p.scopes.now p.subjects.now i j))) (λ k h. o.loop-i.invariant.2 k (omega arith)))
+returns c = sym (eight_law (lists c.args.active.now []) ∙ subst (λ (n : ℕ). all_below n (clear_at c.args.active.now) ≡ true) (omega arith) c.loop-i.invariant.1)

@@ -1,13 +1,11 @@
 use mathlib.Core.Path.{◌≡◌}
 use mathlib.Core.Bool.{true}
-use Prim.Native.Nat.{ℕ, ◌-◌, ◌≤◌, ◌<◌}
-use Rattle.lists.specs.Tests.{non}
+use lib.ListN.{get_or, take}
 use Rattle.lists.specs.Below.{all_below}
-use Rattle.rules.specs.Code.{clash_at, Before}
+use Rattle.state.specs.Locks.{blank_active}
+use Rattle.rules.specs.Code.{Kept}
+use Rattle.rules.proofs.Clash.{clear_at}
 use Rattle.rules.proofs.covers.friends.Given as goal
 
 abbrev pub invariant-loop-i : goal.invariant-loop-i
-invariant-loop-i l = (l.i ≤ l.n) × Before l.words l.whole l.scopes l.subjects l.i l.same l.all × ((k : ℕ) → k < l.i → all_below k (λ j. non (clash_at l.words l.whole l.scopes l.subjects k j)) ≡ true)
-
-abbrev pub decreases-loop-i : goal.decreases-loop-i
-decreases-loop-i l = l.n - l.i
+invariant-loop-i l = Kept (take l.i l.active) (get_or l.active 0 blank_active).lock.subject l.same l.set × (all_below l.i (clear_at l.active) ≡ true)

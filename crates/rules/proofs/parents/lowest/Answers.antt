@@ -1,74 +1,48 @@
 use mathlib.Core.Path.{◌≡◌, sym, ap, ◌∙◌}
-use mathlib.Core.Bool.{true, false}
-use lib.ListN.{get_or}
-use Rattle.lists.specs.Tests.{◌and◌, ◌imp◌}
-use Rattle.lists.specs.Below.{all_below}
-use Rattle.ids.specs.declared.LockId.{LockId}
-use Rattle.ids.specs.Order.{same_id}
-use Rattle.coverage.specs.declared.LockCoverage.{LockCoverage}
-use Rattle.coverage.specs.Coverage.{within}
-use Rattle.rules.specs.Code.{id_at, cover_at, under_all, inside_all, lowest_parent}
+use mathlib.Core.Bool.{true}
+use mathlib.Core.List.{List}
+use Rattle.std.specs.Prelude.{Option, Some}
+use Rattle.std.specs.List.{list_all}
+use Rattle.state.specs.declared.ActiveLock.{ActiveLock}
+use Rattle.rules.specs.declared.Unsound.TheVariants.{Rule}
+use Rattle.rules.specs.Code.{child_under, lowest_past_4, lowest_parent}
 use Rattle.rules.proofs.parents.lowest.Goals as goal
-use Rattle.rules.proofs.parents.lowest.Goals.{After-inside, After-owned, After-under, Else-not-under, Start}
 
--- The tests one by one, where all at once failed. Assumes nothing.
-abbrev start : (c : After-under) → Start
-start c = (goal.at.After-under c).Start
-
-abbrev one : (c : After-owned) → After-under
-one c = (goal.at.After-owned c).After-under
-
-abbrev two : (c : After-inside) → After-owned
-two c = (goal.at.After-inside c).After-owned
-
--- what each test says, of the vehicle lock's place
-under-is : (c : After-under) → c.under.result ≡ (let a = (start c).args in under_all a.n a.list.now a.parents.now a.words.now a.whole.now a.child.now a.scopes.now a.subjects.now a.some a.p)
-under-is c =
-    let a = (start c).args in
-    c.under.ensures ∙ ap (λ (x : LockId). all_below a.n (λ i. get_or a.child.now i false imp (a.some and same_id (id_at a.parents.now i) x))) c.id_at.ensures
-
-inside_is : (c : After-inside) → c.inside.result ≡ (let a = (start (one (two c))).args in inside_all a.n a.list.now a.parents.now a.words.now a.whole.now a.child.now a.scopes.now a.subjects.now a.some a.p)
-inside_is c =
-    let a = (start (one (two c))).args in
-    c.inside.ensures ∙ ap (λ (x : LockCoverage). all_below a.n (λ i. get_or a.child.now i false imp within (cover_at a.words.now a.whole.now i) x)) c.cover_at.ensures
+-- rules 3 and 4 hold
+past : (l : List ActiveLock) (o p : Option ActiveLock) → o ≡ p → list_all (child_under o) l ≡ true → lowest_parent l o ≡ lowest_past_4 l p
+unfolding lowest_parent
+past l o p e u = rw u (ap (lowest_past_4 l) e)
 
 pub returns-then-active : goal.returns-then-active
 unfolding lowest_parent
 returns-then-active c =
-    let u = sym (under-is (goal.at.returns-then-active c).After-under) ∙ c.if-not-under.true in
+    let u = sym c.under.ensures ∙ c.if-not-under.true in
     let t = sym c.active.ensures ∙ c.if-active.true in
     rw (u, t)
 
-pub returns-then-not-under : goal.returns-then-not-under
+pub returns-else-active : goal.returns-else-active
 unfolding lowest_parent
-returns-then-not-under c =
-    let u = sym (under-is (goal.at.returns-then-not-under c).After-under) ∙ c.if-not-under.true in
+returns-else-active c =
+    let u = sym c.under.ensures ∙ c.if-not-under.true in
     let t = sym c.active.ensures ∙ c.if-active.false in
     rw (u, t)
 
--- rules 3 and 4 hold
-past-four : (c : Else-not-under) → (let a = (start (goal.at.Else-not-under c).After-under).args in under_all a.n a.list.now a.parents.now a.words.now a.whole.now a.child.now a.scopes.now a.subjects.now a.some a.p) ≡ true
-past-four c = sym (under-is (goal.at.Else-not-under c).After-under) ∙ c.if-not-under.false
+pub returns-in_default : goal.returns-in_default
+returns-in_default c = ap Rule (sym (past c.args.active.now c.args.vehicle _ c.in_default.is (sym c.under.ensures ∙ c.if-not-under.false)))
 
 pub returns-then-not-owned : goal.returns-then-not-owned
-unfolding lowest_parent
 returns-then-not-owned c =
-    let u = past-four (goal.at.returns-then-not-owned c).Else-not-under in
     let t = sym c.owned.ensures ∙ c.if-not-owned.true in
-    rw (u, t)
+    ap Rule (sym (past c.args.active.now c.args.vehicle (Some c.in-Some.v) c.in-Some.is (sym c.under.ensures ∙ c.if-not-under.false) ∙ rw t))
 
 pub returns-then-not-inside : goal.returns-then-not-inside
-unfolding lowest_parent
 returns-then-not-inside c =
-    let u = past-four (goal.at.returns-then-not-inside c).Else-not-under in
     let t = sym c.owned.ensures ∙ c.if-not-owned.false in
-    let v = sym (inside_is (goal.at.returns-then-not-inside c).After-inside) ∙ c.if-not-inside.true in
-    rw (u, t, v)
+    let v = sym c.inside.ensures ∙ c.if-not-inside.true in
+    ap Rule (sym (past c.args.active.now c.args.vehicle (Some c.in-Some.v) c.in-Some.is (sym c.under.ensures ∙ c.if-not-under.false) ∙ rw (t, v)))
 
 pub returns : goal.returns
-unfolding lowest_parent
 returns c =
-    let u = past-four (goal.at.returns c).Else-not-under in
     let t = sym c.owned.ensures ∙ c.if-not-owned.false in
-    let v = sym (inside_is (goal.at.returns c).After-inside) ∙ c.if-not-inside.false in
-    rw (u, t, v)
+    let v = sym c.inside.ensures ∙ c.if-not-inside.false in
+    ap Rule (sym (past c.args.active.now c.args.vehicle (Some c.in-Some.v) c.in-Some.is (sym c.under.ensures ∙ c.if-not-under.false) ∙ rw (t, v)))

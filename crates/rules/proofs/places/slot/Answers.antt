@@ -1,7 +1,6 @@
-use mathlib.Core.Path.{refl}
-use Rattle.rules.specs.Code.{slot_of}
+use native.Mathlib.Omega.{arith}
+use Rattle.rules.proofs.Search.{slot_is}
 use Rattle.rules.proofs.places.slot.Goals as goal
 
 pub returns : goal.returns
-unfolding slot_of
-returns c = refl
+returns c = slot_is c.args.id (omega arith)

@@ -1,10 +1,6 @@
 use native.Mathlib.Omega.{arith}
 use Rattle.rules.proofs.Scans.{small_vehicle, small_ecu, small_group}
-use borrow.Author.Rules.{rules}
 use Rattle.rules.proofs.scopes.number.Goals as goal
-
-pub enum_told-1 : goal.enum_told-1
-enum_told-1 c = search rules
 
 pub returns-in-Vehicle : goal.returns-in-Vehicle
 returns-in-Vehicle c = small_vehicle _ _ c.scope_code-n.ensures c.in-Vehicle.is

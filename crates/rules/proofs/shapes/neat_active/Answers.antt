@@ -1,7 +1,7 @@
 use Rattle.lists.specs.Tests.{◌and◌, ◌or◌}
-use Rattle.rules.specs.Rules.{neat_a}
+use Rattle.rules.specs.Rules.{zero_id, neat_a}
 use Rattle.rules.proofs.shapes.neat_active.Goals as goal
 
 pub returns : goal.returns
-unfolding neat_a ◌or◌ ◌and◌
+unfolding zero_id neat_a ◌or◌ ◌and◌
 returns c = cc

@@ -1,27 +1,18 @@
-use mathlib.Core.Path.{refl, ◌∙◌}
+use mathlib.Core.Path.{◌∙◌}
 use native.Mathlib.Omega.{arith}
-use lib.ListN.{length-set}
+use lib.ListN.{length, get_or, length-set}
 use Rattle.lists.proofs.Places.{fill_more_of}
-use Rattle.rules.specs.Code.{key_at, Sought}
-use Rattle.rules.proofs.Search.{sought_id}
-use Rattle.rules.proofs.Steps.{sought_le}
+use Rattle.ids.specs.Order.{key}
+use Rattle.state.specs.Locks.{blank_defunct}
+use Rattle.rules.specs.Code.{entry_key, Sought}
+use Rattle.rules.proofs.Rings.{sought_of}
 use Rattle.rules.proofs.walks.steps.Goals as goal
 
-pub loop-i-init : goal.loop-i-init
-loop-i-init c = (omega arith, refl, λ j h. absurd (omega arith))
-
-pub overflow_cast-out : goal.overflow_cast-out
-overflow_cast-out c = omega (arith, sought_le _ _ _ _ c.found-k.ensures)
-
 pub loop-i-preserved : goal.loop-i-preserved
+unfolding blank_defunct
 loop-i-preserved c =
-    let o = c.before.before.before in
-    let p = o.args in (
-      omega arith,
-      length-set o.loop-i.out o.loop-i.i c.found-k.result ∙ o.loop-i.invariant.1,
-      fill_more_of (λ k r. Sought (key_at p.list.now) p.n (key_at p.targets.now k) r) o.loop-i.out o.loop-i.i c.found-k.result 0 (omega arith)
-          (sought_id (key_at p.list.now) p.n c.found-k.result _ _ c.found-k.ensures c.id_at.ensures) o.loop-i.invariant.2,
+    let l = c.args.places.now.entries.now in (
+      length-set c.loop-i.out c.loop-i.i c.unwrap_or.result ∙ c.loop-i.invariant.0,
+      fill_more_of (λ j r. Sought (entry_key l) (length l) (key (get_or l j blank_defunct).target) r) c.loop-i.out c.loop-i.i c.unwrap_or.result 0 (omega (arith, c.loop-i.invariant.0, c.args.places.now.few))
+          (sought_of l _ c.find.result c.unwrap_or.result c.find.ensures c.unwrap_or.ensures) c.loop-i.invariant.1,
     )
-
-pub returns : goal.returns
-returns c = (c.loop-i.invariant.1, λ i h. c.loop-i.invariant.2 i (omega arith))

@@ -1,6 +1,0 @@
-use mathlib.Core.Path.{ap, ◌∙◌}
-use Rattle.cablegorse.specs.Questions.{plain_reply}
-use Rattle.cablegorse.proofs.questions.broken.Goals as goal
-
-pub returns : goal.returns
-returns c = c.plain.ensures ∙ ap plain_reply c.one.ensures

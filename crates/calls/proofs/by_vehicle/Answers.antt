@@ -1,7 +1,0 @@
-use mathlib.Core.Path.{ap, ◌∙◌}
-use Rattle.calls.specs.declared.Outcome.TheVariants as O
-use Rattle.calls.specs.Calls.{by_insert}
-use Rattle.calls.proofs.by_vehicle.Goals as goal
-
-pub returns : goal.returns
-returns c = c.plain.ensures ∙ ap (by_insert O.VehicleInserted) c.insert_vehicle-done.ensures

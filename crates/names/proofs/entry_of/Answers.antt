@@ -1,5 +1,0 @@
-use Rattle.names.proofs.Entries.{entry_part}
-use Rattle.names.proofs.entry_of.Goals as goal
-
-pub returns : goal.returns
-returns c = entry_part _ _

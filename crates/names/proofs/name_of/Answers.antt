@@ -1,5 +1,0 @@
-use Rattle.names.proofs.Entries.{name_part}
-use Rattle.names.proofs.name_of.Goals as goal
-
-pub returns : goal.returns
-returns c = name_part _

@@ -1,0 +1,6 @@
+use mathlib.Core.Path.{sym, ◌∙◌}
+use Rattle.records.proofs.Wire.{and_true}
+use Rattle.records.proofs.bodies.DefunctLockBody.right.Goals as goal
+
+pub returns : goal.returns
+returns c = c.lock_right.ensures ∙ sym (and_true _)

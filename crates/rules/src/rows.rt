@@ -1,0 +1,117 @@
+// What active locks and defunct entries have in common, for the rules that are of both lists.
+// SPDX-License-Identifier: Apache-2.0
+ghost use Rattle.std.specs.Prelude.{◌≡◌, ℕ, Bool, true, position};
+ghost use Rattle.std.specs.List.{list_all};
+ghost use Rattle.lists.specs.Tests.{◌and◌};
+ghost use Rattle.lists.specs.Lists.{all, ascending};
+ghost use Rattle.ids.specs.Order.{key};
+ghost use Rattle.state.specs.Locks.{akey, dkey};
+ghost use Rattle.rules.specs.Rules.{is_blank_a, is_blank_d, neat_a, neat_d};
+ghost use Rattle.rules.specs.Code.{clean, keyed};
+
+use crate::shapes;
+use crate::shapes::Dirt;
+use ids::LockId;
+use state::{ActiveLock, DefunctLock};
+
+// A lock or entry, which its list is ordered by the id of.
+pub trait Keyed: Copy {
+    ghost row_key: { Self → ℕ };
+
+    fn id(&self) -> LockId
+        ensures { key result ≡ row_key self.now };
+}
+
+pub(crate) trait Row: Keyed {
+    ghost is_blank: { Self → Bool };
+
+    ghost is_neat: { Self → Bool };
+
+    // What an unused place holds joins what others held.
+    fn stain(&self, dirt: Dirt) -> Dirt
+        ensures { clean result ≡ (clean dirt and is_blank self.now) };
+
+    fn neat(&self) -> bool
+        ensures { result ≡ is_neat self.now };
+}
+
+impl Keyed for ActiveLock {
+    ghost row_key = { akey };
+
+    fn id(&self) -> LockId {
+        self.lock.id
+    }
+}
+
+impl Row for ActiveLock {
+    ghost is_blank = { is_blank_a };
+
+    ghost is_neat = { neat_a };
+
+    fn stain(&self, dirt: Dirt) -> Dirt {
+        dirt.with_active(*self)
+    }
+
+    fn neat(&self) -> bool {
+        shapes::neat_active(*self)
+    }
+}
+
+impl Keyed for DefunctLock {
+    ghost row_key = { dkey };
+
+    fn id(&self) -> LockId {
+        self.lock.id
+    }
+}
+
+impl Row for DefunctLock {
+    ghost is_blank = { is_blank_d };
+
+    ghost is_neat = { neat_d };
+
+    fn stain(&self, dirt: Dirt) -> Dirt {
+        dirt.with_defunct(*self)
+    }
+
+    fn neat(&self) -> bool {
+        shapes::neat_defunct(*self)
+    }
+}
+
+// Whether all of them are blank.
+pub(crate) fn blank<T: Row>(rows: &[T]) -> bool
+    ensures { result ≡ all T.is_blank rows.now }
+{
+    let mut dirt = Dirt::nothing();
+    for x in rows {
+        dirt = x.stain(dirt);
+    }
+    dirt.is_clean()
+}
+
+pub(crate) fn neat<T: Row>(rows: &[T]) -> bool
+    ensures { result ≡ list_all T.is_neat rows.now }
+{
+    rows.iter().all(|x| x.neat())
+}
+
+// Whether each id is below the next.
+pub(crate) fn rising<T: Keyed>(rows: &[T]) -> bool
+    ensures { result ≡ ascending T.row_key rows.now }
+{
+    rows.is_sorted_by(|a, b| ids::less(a.id(), b.id()))
+}
+
+// The place of an id in a list that ascends.
+pub fn place<T: Keyed>(rows: &[T], id: LockId) -> Option<usize>
+    ensures { ascending T.row_key rows.now ≡ true → result ≡ position (keyed T.row_key (key id)) rows.now }
+{
+    let k = rows.partition_point(|x| ids::less(x.id(), id));
+    if k < rows.len() {
+        if ids::same(rows[k].id(), id) {
+            return Some(k);
+        }
+    }
+    None
+}
