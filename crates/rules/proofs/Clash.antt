@@ -123,10 +123,6 @@ kept_none s set = record { friends = λ t y i. none i; covered = λ y i. none i 
     none : {P : Type 0} {y : ActiveLock} → Mem y [] → P
     none i = elim i [ ]
 
--- the lock at place i clashes with none before it
-abbrev pub clear_at : List ActiveLock → ℕ → Bool
-clear_at l i = all (λ y. non (clash (get_or l i blank_active).lock y.lock)) (take i l)
-
 module _ (l : List ActiveLock) (i : ℕ) (h : i < length l) (s : ℕ) (same : Bool) (set : LockCoverage) (w : Kept (take i l) s same set) where
   abbrev x : ActiveLock
   x = get_or l i blank_active

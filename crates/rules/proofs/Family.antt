@@ -26,7 +26,7 @@ use Rattle.state.specs.Locks.{akey, is_vehicle, scope_code, same_scope, blank_ac
 use Rattle.state.specs.Model.{Model}
 use Rattle.state.proofs.Laws.{vehicle_code}
 use Rattle.rules.specs.Rules.{parent_of, of_parent, is_some, clash, rule2, rule3, rule4, rule5, rule6, rule7, rule8}
-use Rattle.rules.specs.Code.{child_under, child_active, child_owned, child_inside, child_fits, lowest_past_4, lowest_parent, lowest_from, active_rules}
+use Rattle.rules.specs.Code.{alone_at, child_under, child_active, child_owned, child_inside, child_fits, lowest_past_4, lowest_parent, clear_at, lowest_from, active_rules}
 
 -- ---- tests
 imp_same : (c a b : Bool) → (c ≡ true → a ≡ b) → (c imp a) ≡ (c imp b)
@@ -201,11 +201,11 @@ module _ (m : Model) where
       unfolding rule4
       four_yes = of_vehicle (λ x a. is_vehicle x.lock.scope) ∙ all_alike (λ a. a.child imp is_vehicle v.lock.scope) (λ a. a.child imp true) m.active (λ a i. ap (λ (b : Bool). a.child imp b) (find→ (λ (x : ActiveLock). is_vehicle x.lock.scope) m.active e).1) ∙ always
 
-      five_law : rule5 m ≡ list_all (child_owned v) m.active
+      pub five_law : rule5 m ≡ list_all (child_owned v) m.active
       unfolding rule5
       five_law = of_vehicle (λ x a. eqb x.lock.subject a.lock.subject) ∙ sym (all_as (λ a. a.child imp eqb v.lock.subject a.lock.subject) (child_owned v) (λ a. imp_test a.child (eqb v.lock.subject a.lock.subject)) m.active)
 
-      six_law : rule6 m ≡ list_all (child_inside v) m.active
+      pub six_law : rule6 m ≡ list_all (child_inside v) m.active
       unfolding rule6
       six_law = of_vehicle (λ x a. within a.lock.coverage x.lock.coverage) ∙ sym (all_as (λ a. a.child imp within a.lock.coverage v.lock.coverage) (child_inside v) (λ a. imp_test a.child (within a.lock.coverage v.lock.coverage)) m.active)
 
@@ -252,7 +252,7 @@ module _ (m : Model) where
         child a i None f false c = rw c refl
 
     -- ---- the four tests of a child, and all of them at once
-    fit_law : (v : ActiveLock) → list_all (child_fits (Some v)) m.active ≡ (((all (child_under (Some v)) m.active and all (child_owned v) m.active) and all (child_inside v) m.active) and rule7 m)
+    pub fit_law : (v : ActiveLock) → list_all (child_fits (Some v)) m.active ≡ (((all (child_under (Some v)) m.active and all (child_owned v) m.active) and all (child_inside v) m.active) and rule7 m)
     unfolding rule7
     fit_law v =
         all_as (λ a. ((child_under (Some v) a and child_owned v a) and child_inside v a) and (is_vehicle a.lock.scope imp non a.child)) (child_fits (Some v))
@@ -261,20 +261,20 @@ module _ (m : Model) where
         ∙ ap (λ (b : Bool). b and all (λ a. is_vehicle a.lock.scope imp non a.child) m.active)
         (all_and (λ a. child_under (Some v) a and child_owned v a) (child_inside v) m.active ∙ ap (λ (b : Bool). b and all (child_inside v) m.active) (all_and (child_under (Some v)) (child_owned v) m.active))
 
-    -- ---- the lowest that is broken
-    pub low_two : rule2 m ≡ false → 2 ≡ lowest_from 2 (active_rules m)
-    low_two t = sym (stop_low 2 (rule2 m) (from3 m) t)
+    -- ---- the lowest that is broken, by the rules
+    broken_two : rule2 m ≡ false → 2 ≡ lowest_from 2 (active_rules m)
+    broken_two r = sym (stop_low 2 (rule2 m) (from3 m) r)
 
-    module _ (t2 : rule2 m ≡ true) where
+    module _ (r2 : rule2 m ≡ true) where
       from_two : lowest_from 2 (active_rules m) ≡ lowest_from 3 (from3 m)
-      from_two = next_low 2 (rule2 m) (from3 m) t2
+      from_two = next_low 2 (rule2 m) (from3 m) r2
 
-      low_three : rule3 m ≡ false → 3 ≡ lowest_from 2 (active_rules m)
-      low_three t = sym (from_two ∙ stop_low 3 (rule3 m) (from4 m) t)
+      broken_three : rule3 m ≡ false → 3 ≡ lowest_from 2 (active_rules m)
+      broken_three r = sym (from_two ∙ stop_low 3 (rule3 m) (from4 m) r)
 
       module _ (o : Option ActiveLock) (e : the_vehicle ≡ o) where
-        low_four : list_all (child_under o) m.active ≡ false → rule3 m ≡ true → 4 ≡ lowest_from 2 (active_rules m)
-        low_four u t = sym (from_two ∙ next_low 3 (rule3 m) (from4 m) t ∙ stop_low 4 (rule4 m) (from5 m) (→no (rule4 m) (λ r. against u (under_yes o e t2 t r))))
+        broken_four : list_all (child_under o) m.active ≡ false → rule3 m ≡ true → 4 ≡ lowest_from 2 (active_rules m)
+        broken_four u r3 = sym (from_two ∙ next_low 3 (rule3 m) (from4 m) r3 ∙ stop_low 4 (rule4 m) (from5 m) (→no (rule4 m) (λ r. against u (under_yes o e r2 r3 r))))
 
         module _ (u : list_all (child_under o) m.active ≡ true) where
           three_four : (rule3 m ≡ true) × (rule4 m ≡ true)
@@ -288,35 +288,24 @@ module _ (m : Model) where
           from_four : lowest_from 2 (active_rules m) ≡ lowest_from 5 (from5 m)
           from_four = from_two ∙ next_low 3 (rule3 m) (from4 m) three_four.0 ∙ next_low 4 (rule4 m) (from5 m) three_four.1
 
-          low_five : rule5 m ≡ false → 5 ≡ lowest_from 2 (active_rules m)
-          low_five t = sym (from_four ∙ stop_low 5 (rule5 m) (from6 m) t)
+          broken_five : rule5 m ≡ false → 5 ≡ lowest_from 2 (active_rules m)
+          broken_five r = sym (from_four ∙ stop_low 5 (rule5 m) (from6 m) r)
 
-          module _ (t5 : rule5 m ≡ true) where
-            low_six : rule6 m ≡ false → 6 ≡ lowest_from 2 (active_rules m)
-            low_six t = sym (from_four ∙ next_low 5 (rule5 m) (from6 m) t5 ∙ stop_low 6 (rule6 m) (from7 m) t)
+          module _ (r5 : rule5 m ≡ true) where
+            broken_six : rule6 m ≡ false → 6 ≡ lowest_from 2 (active_rules m)
+            broken_six r = sym (from_four ∙ next_low 5 (rule5 m) (from6 m) r5 ∙ stop_low 6 (rule6 m) (from7 m) r)
 
-            module _ (t6 : rule6 m ≡ true) where
+            module _ (r6 : rule6 m ≡ true) where
               from_six : lowest_from 2 (active_rules m) ≡ lowest_from 7 (from7 m)
-              from_six = from_four ∙ next_low 5 (rule5 m) (from6 m) t5 ∙ next_low 6 (rule6 m) (from7 m) t6
+              from_six = from_four ∙ next_low 5 (rule5 m) (from6 m) r5 ∙ next_low 6 (rule6 m) (from7 m) r6
 
-              low_seven : rule7 m ≡ false → 7 ≡ lowest_from 2 (active_rules m)
-              low_seven t = sym (from_six ∙ stop_low 7 (rule7 m) (from8 m) t)
+              broken_seven : rule7 m ≡ false → 7 ≡ lowest_from 2 (active_rules m)
+              broken_seven r = sym (from_six ∙ stop_low 7 (rule7 m) (from8 m) r)
 
               from_seven : rule7 m ≡ true → lowest_from 2 (active_rules m) ≡ lowest_from 8 (from8 m)
-              from_seven t = from_six ∙ next_low 7 (rule7 m) (from8 m) t
+              from_seven r = from_six ∙ next_low 7 (rule7 m) (from8 m) r
 
-      -- where not all tests pass at once
-      past_4 : (o : Option ActiveLock) → the_vehicle ≡ o → list_all (child_under o) m.active ≡ true → list_all (child_fits o) m.active ≡ false → lowest_past_4 m.active o ≡ lowest_from 2 (active_rules m)
-      past_4 None f u n = absurd (against n u)
-      past_4 (Some v) f u n =
-          by (list_all (child_owned v) m.active) (cond (list_all (child_owned v) m.active) (cond (list_all (child_inside v) m.active) 7 6) 5 ≡ lowest_from 2 (active_rules m))
-          (λ t5. rw t5 (by (list_all (child_inside v) m.active) (cond (list_all (child_inside v) m.active) 7 6 ≡ lowest_from 2 (active_rules m))
-          (λ t6. rw t6 (low_seven (Some v) f u (five_law v f u ∙ t5) (six_law v f u ∙ t6) (→no (rule7 m) (λ t7. against n (fit_law v ∙ and_i _ _ (and_i _ _ (and_i _ _
-          (sym (all_std (child_under (Some v)) m.active) ∙ u) (sym (all_std (child_owned v) m.active) ∙ t5)) (sym (all_std (child_inside v) m.active) ∙ t6)) t7)))))
-          (λ t6. rw t6 (low_six (Some v) f u (five_law v f u ∙ t5) (six_law v f u ∙ t6)))))
-          (λ t5. rw t5 (low_five (Some v) f u (five_law v f u ∙ t5)))
-
-      -- and where they do
+      -- where all tests of a child pass
       from_fit : (o : Option ActiveLock) → the_vehicle ≡ o → list_all (child_fits o) m.active ≡ true → lowest_from 2 (active_rules m) ≡ lowest_from 8 (from8 m)
       unfolding rule5 rule6 rule7
       from_fit None f t =
@@ -329,20 +318,63 @@ module _ (m : Model) where
           let u = all_std (child_under (Some v)) m.active ∙ and_l _ _ w1 in
           from_seven (Some v) f u (five_law v f u ∙ all_std (child_owned v) m.active ∙ and_r _ _ w1) (six_law v f u ∙ all_std (child_inside v) m.active ∙ and_r _ _ w2) (and_r _ _ w)
 
+      module _ (o : Option ActiveLock) (e : the_vehicle ≡ o) (f : list_all (child_fits o) m.active ≡ true) where
+        broken_eight : rule8 m ≡ false → 8 ≡ lowest_from 2 (active_rules m)
+        broken_eight r = sym (from_fit o e f ∙ stop_low 8 (rule8 m) [] r)
+
+        broken_none : rule8 m ≡ true → 0 ≡ lowest_from 2 (active_rules m)
+        broken_none r = sym (from_fit o e f ∙ next_low 8 (rule8 m) [] r)
+
+    -- ---- and by the code's tests, each after those before it
+    pub low_two : all_below (length m.active) (alone_at m.active) ≡ false → 2 ≡ lowest_from 2 (active_rules m)
+    low_two t = broken_two (two_law s ∙ t)
+
+    module _ (t2 : all_below (length m.active) (alone_at m.active) ≡ true) where
+      two_yes : rule2 m ≡ true
+      two_yes = two_law s ∙ t2
+
+      pub low_three : list_all (child_active m.active) m.active ≡ false → 3 ≡ lowest_from 2 (active_rules m)
+      low_three t = broken_three two_yes (three_law ∙ t)
+
+      pub low_four : (o : Option ActiveLock) → the_vehicle ≡ o → list_all (child_under o) m.active ≡ false → list_all (child_active m.active) m.active ≡ true → 4 ≡ lowest_from 2 (active_rules m)
+      low_four o e u t = broken_four two_yes o e u (three_law ∙ t)
+
+      module _ (v : ActiveLock) (e : the_vehicle ≡ Some v) (u : list_all (child_under (Some v)) m.active ≡ true) where
+        pub low_five : list_all (child_owned v) m.active ≡ false → 5 ≡ lowest_from 2 (active_rules m)
+        low_five t = broken_five two_yes (Some v) e u (five_law v e u ∙ t)
+
+        module _ (t5 : list_all (child_owned v) m.active ≡ true) where
+          pub low_six : list_all (child_inside v) m.active ≡ false → 6 ≡ lowest_from 2 (active_rules m)
+          low_six t = broken_six two_yes (Some v) e u (five_law v e u ∙ t5) (six_law v e u ∙ t)
+
+          pub low_seven : list_all (child_inside v) m.active ≡ true → list_all (child_fits (Some v)) m.active ≡ false → 7 ≡ lowest_from 2 (active_rules m)
+          low_seven t6 n = broken_seven two_yes (Some v) e u (five_law v e u ∙ t5) (six_law v e u ∙ t6) (→no (rule7 m) (λ r. against n (fit_law v ∙ and_i _ _ (and_i _ _ (and_i _ _
+              (sym (all_std (child_under (Some v)) m.active) ∙ u) (sym (all_std (child_owned v) m.active) ∙ t5)) (sym (all_std (child_inside v) m.active) ∙ t6)) r)))
+
+      -- where not all tests of a child pass at once
+      past_4 : (o : Option ActiveLock) → the_vehicle ≡ o → list_all (child_under o) m.active ≡ true → list_all (child_fits o) m.active ≡ false → lowest_past_4 m.active o ≡ lowest_from 2 (active_rules m)
+      past_4 None e u n = absurd (against n u)
+      past_4 (Some v) e u n =
+          by (list_all (child_owned v) m.active) (cond (list_all (child_owned v) m.active) (cond (list_all (child_inside v) m.active) 7 6) 5 ≡ lowest_from 2 (active_rules m))
+          (λ t5. rw t5 (by (list_all (child_inside v) m.active) (cond (list_all (child_inside v) m.active) 7 6 ≡ lowest_from 2 (active_rules m))
+          (λ t6. rw t6 (low_seven v e u t5 t6 n))
+          (λ t6. rw t6 (low_six v e u t5 t6))))
+          (λ t5. rw t5 (low_five v e u t5))
+
       module _ (o : Option ActiveLock) (e : the_vehicle ≡ o) where
         pub low_unfit : list_all (child_fits o) m.active ≡ false → lowest_parent m.active o ≡ lowest_from 2 (active_rules m)
         unfolding lowest_parent
         low_unfit f = by (list_all (child_under o) m.active) (lowest_parent m.active o ≡ lowest_from 2 (active_rules m))
             (λ u. rw u (past_4 o e u f))
             (λ u. rw u (by (list_all (child_active m.active) m.active) (cond (list_all (child_active m.active) m.active) 4 3 ≡ lowest_from 2 (active_rules m))
-            (λ t. rw t (low_four o e u (three_law ∙ t))) (λ t. rw t (low_three (three_law ∙ t)))))
+            (λ t. rw t (low_four o e u t)) (λ t. rw t (low_three t))))
 
         module _ (f : list_all (child_fits o) m.active ≡ true) where
-          pub low_eight : rule8 m ≡ false → 8 ≡ lowest_from 2 (active_rules m)
-          low_eight t = sym (from_fit o e f ∙ stop_low 8 (rule8 m) [] t)
+          pub low_eight : all_below (length m.active) (clear_at m.active) ≡ false → 8 ≡ lowest_from 2 (active_rules m)
+          low_eight t = broken_eight two_yes o e f (eight_law ∙ t)
 
-          pub low_none : rule8 m ≡ true → 0 ≡ lowest_from 2 (active_rules m)
-          low_none t = sym (from_fit o e f ∙ next_low 8 (rule8 m) [] t)
+          pub low_none : all_below (length m.active) (clear_at m.active) ≡ true → 0 ≡ lowest_from 2 (active_rules m)
+          low_none t = broken_none two_yes o e f (eight_law ∙ t)
 
 -- what is named is a rule
 pub parent_named : (l : List ActiveLock) (o : Option ActiveLock) → lowest_parent l o ≡ 0 → ⊥

@@ -13,17 +13,9 @@ use Rattle.lists.specs.Tests.{non}
 use Rattle.lists.specs.Below.{all_below}
 use Rattle.lists.proofs.Tests.{non_t, non_f}
 use Rattle.lists.proofs.Below.{all_of, all_no}
-use Rattle.state.specs.declared.ActiveLock.{ActiveLock}
 use Rattle.state.specs.declared.ScopeKey.{ScopeKey}
 use Rattle.state.specs.declared.ScopeKey.TheVariants.{Vehicle, Ecu, FunctionalGroup}
-use Rattle.state.specs.Locks.{scope_code, blank_active}
-
--- the number of the scope at a place, and whether it is at no place before
-abbrev pub code_at : List ActiveLock → ℕ → ℕ
-code_at l i = scope_code (get_or l i blank_active).lock.scope
-
-abbrev pub alone_at : List ActiveLock → ℕ → Bool
-alone_at l i = all_below i (λ j. non (eqb (code_at l i) (code_at l j)))
+use Rattle.state.specs.Locks.{scope_code}
 
 -- ---- a table of which numbers below 513 were seen at the places below i
 pub record Marked (f : ℕ → ℕ) (i : ℕ) (seen : List Bool) : Type 0 where

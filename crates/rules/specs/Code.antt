@@ -1,11 +1,12 @@
 -- What only the contracts of the crate's own functions name: a reader of the rules need not believe or read any of it. The
 -- public contract is `broken_rule` (Rules.antt) alone, and the proofs join the two.
--- Places in a list that ascends, steps from place to place, and the tests of rules 3 to 8 as the code makes them.
-use Rattle.std.specs.Prelude.{◌≡◌, Bool, true, false, cond, List, [], ◌∷◌, ◌⊎◌, ℕ, suc, ◌+◌, ◌*◌, ◌/◌, ◌%◌, ◌^◌, ◌≤◌, ◌<◌, eqb, length, get_or}
+-- Places in a list that ascends, steps from place to place, and the tests of rules 2 to 8 as the code makes them.
+use Rattle.std.specs.Prelude.{◌≡◌, Bool, true, false, cond, List, [], ◌∷◌, ◌⊎◌, ℕ, suc, ◌+◌, ◌*◌, ◌/◌, ◌%◌, ◌^◌, ◌≤◌, ◌<◌, eqb, length, get_or, take}
 use Rattle.std.specs.Prelude.{Option, None, Some, not, ◌&&◌, ◌||◌}
 use Rattle.std.specs.List.{list_all, list_any}
 use Rattle.lists.specs.Tests.{non, ◌and◌, ◌or◌}
-use Rattle.lists.specs.Lists.{Mem}
+use Rattle.lists.specs.Lists.{all, Mem}
+use Rattle.lists.specs.Below.{all_below}
 use Rattle.ids.specs.declared.LockId.{LockId}
 use Rattle.ids.specs.Order.{key, same_id}
 use Rattle.coverage.specs.declared.LockCoverage.{LockCoverage}
@@ -13,10 +14,10 @@ use Rattle.std.specs.Int.Bits.{bit_or}
 use Rattle.coverage.specs.Coverage.{within}
 use Rattle.state.specs.declared.ActiveLock.{ActiveLock}
 use Rattle.state.specs.declared.DefunctLock.{DefunctLock}
-use Rattle.state.specs.Locks.{dkey, is_vehicle, blank_defunct}
+use Rattle.state.specs.Locks.{dkey, is_vehicle, scope_code, blank_active, blank_defunct}
 use Rattle.state.specs.Model.{Model}
 use Rattle.rules.specs.declared.shapes.Dirt.{Dirt}
-use Rattle.rules.specs.Rules.{rule2, rule3, rule4, rule5, rule6, rule7, rule8}
+use Rattle.rules.specs.Rules.{clash, rule2, rule3, rule4, rule5, rule6, rule7, rule8}
 
 -- ---- unused places
 -- nothing was found in them
@@ -86,6 +87,13 @@ module _ (next : List ℕ) (n : ℕ) where
   abbrev pub LeadsOut : Bool → Type 0
   LeadsOut r = ((r ≡ true) × ((p : ℕ) → p < n → Out p)) ⊎ ((r ≡ false) × ((p : ℕ) × (p < n) × Path p p))
 
+-- ---- rule 2: the lock at a place has the scope of none before it; scopes are their numbers
+abbrev pub code_at : List ActiveLock → ℕ → ℕ
+code_at l i = scope_code (get_or l i blank_active).lock.scope
+
+abbrev pub alone_at : List ActiveLock → ℕ → Bool
+alone_at l i = all_below i (λ j. non (eqb (code_at l i) (code_at l j)))
+
 -- ---- rules 3 to 7 by the vehicle lock, if there is one: what they ask of a lock, as the code tests it
 -- a child's parent is that lock
 abbrev pub child_under : Option ActiveLock → ActiveLock → Bool
@@ -115,7 +123,10 @@ lowest_past_4 l None = 7
 unfoldable pub lowest_parent : List ActiveLock → Option ActiveLock → ℕ
 lowest_parent l v = cond (list_all (child_under v) l) (lowest_past_4 l v) (cond (list_all (child_active l) l) 4 3)
 
--- ---- rule 8
+-- ---- rule 8: the lock at a place clashes with none before it
+abbrev pub clear_at : List ActiveLock → ℕ → Bool
+clear_at l i = all (λ y. non (clash (get_or l i blank_active).lock y.lock)) (take i l)
+
 abbrev pub union : LockCoverage → LockCoverage → LockCoverage
 union a b = record { w0 = bit_or a.w0 b.w0; w1 = bit_or a.w1 b.w1; w2 = bit_or a.w2 b.w2; w3 = bit_or a.w3 b.w3; whole = a.whole or b.whole }
 

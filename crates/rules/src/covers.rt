@@ -1,12 +1,13 @@
 // Rule 8: two active non-vehicle locks whose coverages overlap have one subject. A lock is compared with those before
 // it only if the set of all of them meets it, and they don't all have its subject.
 // SPDX-License-Identifier: Apache-2.0
-ghost use Rattle.std.specs.Prelude.{◌≡◌, [], not};
+ghost use Rattle.std.specs.Prelude.{◌≡◌, length, not};
 ghost use Rattle.std.specs.List.{list_all};
 ghost use Rattle.lists.specs.Tests.{non};
 ghost use Rattle.lists.specs.Lists.{all};
-ghost use Rattle.rules.specs.Rules.{clash, rule8};
-ghost use Rattle.rules.specs.Code.{lists, union, Kept};
+ghost use Rattle.lists.specs.Below.{all_below};
+ghost use Rattle.rules.specs.Rules.{clash};
+ghost use Rattle.rules.specs.Code.{clear_at, union, Kept};
 
 use coverage::LockCoverage;
 use state::{ActiveLock, Lock};
@@ -54,7 +55,7 @@ fn settled(x: Lock, before: &[ActiveLock], same: bool, set: LockCoverage) -> boo
 }
 
 pub(crate) fn friends(active: &[ActiveLock]) -> bool
-    ensures { result ≡ rule8 (lists active.now []) }
+    ensures { result ≡ all_below (length active.now) (clear_at active.now) }
 {
     // Of the non-vehicle locks so far: whether all have the first lock's subject, and a set that has their ECUs.
     let mut same = true;

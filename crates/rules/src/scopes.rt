@@ -1,10 +1,10 @@
 // Rule 2: one active lock a scope. Scopes are their numbers (state::scope_code), 0 for the vehicle.
 // SPDX-License-Identifier: Apache-2.0
-ghost use Rattle.std.specs.Prelude.{◌≡◌, ◌<◌, true, []};
-ghost use Rattle.lists.specs.Lists.{ascending, find};
-ghost use Rattle.state.specs.Locks.{akey, scope_code, is_vehicle};
-ghost use Rattle.rules.specs.Rules.{rule2};
-ghost use Rattle.rules.specs.Code.{lists};
+ghost use Rattle.std.specs.Prelude.{◌≡◌, ◌<◌, length};
+ghost use Rattle.lists.specs.Lists.{find};
+ghost use Rattle.lists.specs.Below.{all_below};
+ghost use Rattle.state.specs.Locks.{scope_code, is_vehicle};
+ghost use Rattle.rules.specs.Code.{alone_at};
 
 use state::{ActiveLock, ScopeKey};
 
@@ -21,8 +21,7 @@ pub(crate) fn number(k: ScopeKey) -> usize
 }
 
 pub(crate) fn one_each(active: &[ActiveLock]) -> bool
-    requires { ascending akey active.now ≡ true }
-    ensures { result ≡ rule2 (lists active.now []) }
+    ensures { result ≡ all_below (length active.now) (alone_at active.now) }
 {
     let mut seen = [false; 513];
     for a in active {

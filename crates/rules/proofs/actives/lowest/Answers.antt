@@ -4,8 +4,13 @@ use native.Mathlib.Omega.{arith}
 use Rattle.std.specs.Prelude.{Err}
 use Rattle.rules.specs.Code.{lists, lowest_parent, active_rules}
 use Rattle.rules.proofs.Lowest.{told_stop, told_none}
-use Rattle.rules.proofs.Family.{low_unfit, low_eight, low_none, parent_named}
+use Rattle.rules.proofs.Family.{low_two, low_unfit, low_eight, low_none, parent_named}
 use Rattle.rules.proofs.actives.lowest.Goals as goal
+
+pub returns-then-not-one_each : goal.returns-then-not-one_each
+returns-then-not-one_each c =
+    let m = lists c.args.active.now [] in
+    told_stop 2 (active_rules m) 2 (low_two m c.requires (sym c.one_each.ensures ∙ c.if-not-one_each.true)) (λ e. omega arith)
 
 pub returns-then-not-fit : goal.returns-then-not-fit
 returns-then-not-fit c =

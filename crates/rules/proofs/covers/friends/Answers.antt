@@ -1,15 +1,13 @@
 use mathlib.Core.Path.{◌≡◌, refl, sym, ◌∙◌, subst}
 use mathlib.Core.Bool.{true}
-use mathlib.Core.List.{[]}
 use Prim.Native.Nat.{ℕ}
 use native.Mathlib.Omega.{arith}
 use Rattle.lists.specs.Below.{all_below}
 use Rattle.lists.proofs.Below.{all_no}
 use Rattle.state.specs.Locks.{blank_active}
-use Rattle.rules.specs.Code.{lists}
+use Rattle.rules.specs.Code.{clear_at}
 use Rattle.rules.proofs.Keys.{one_more}
-use Rattle.rules.proofs.Clash.{clear_at, lone_vehicle, kept_none, kept_vehicle, kept_more}
-use Rattle.rules.proofs.Family.{eight_law}
+use Rattle.rules.proofs.Clash.{lone_vehicle, kept_none, kept_vehicle, kept_more}
 use Rattle.rules.proofs.covers.friends.Goals as goal
 
 pub loop-i-init : goal.loop-i-init
@@ -26,7 +24,7 @@ loop-i-preserved-then-is_vehicle c =
 
 pub returns-then-not-settled : goal.returns-then-not-settled
 unfolding blank_active
-returns-then-not-settled c = sym (eight_law (lists c.args.active.now []) ∙ all_no _ (clear_at c.args.active.now) c.loop-i.i c.loop-i-test.true (sym c.settled.ensures ∙ c.if-not-settled.true))
+returns-then-not-settled c = sym (all_no _ (clear_at c.args.active.now) c.loop-i.i c.loop-i-test.true (sym c.settled.ensures ∙ c.if-not-settled.true))
 
 pub loop-i-preserved : goal.loop-i-preserved
 unfolding blank_active
@@ -36,4 +34,4 @@ loop-i-preserved c = (
 )
 
 pub returns : goal.returns
-returns c = sym (eight_law (lists c.args.active.now []) ∙ subst (λ (n : ℕ). all_below n (clear_at c.args.active.now) ≡ true) (omega arith) c.loop-i.invariant.1)
+returns c = sym (subst (λ (n : ℕ). all_below n (clear_at c.args.active.now) ≡ true) (omega arith) c.loop-i.invariant.1)

@@ -3,8 +3,7 @@ use mathlib.Core.Bool.{true}
 use lib.ListN.{get_or, take}
 use Rattle.lists.specs.Below.{all_below}
 use Rattle.state.specs.Locks.{blank_active}
-use Rattle.rules.specs.Code.{Kept}
-use Rattle.rules.proofs.Clash.{clear_at}
+use Rattle.rules.specs.Code.{Kept, clear_at}
 use Rattle.rules.proofs.covers.friends.Given as goal
 
 abbrev pub invariant-loop-i : goal.invariant-loop-i
