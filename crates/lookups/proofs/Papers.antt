@@ -1,7 +1,7 @@
 -- No two answers of a read have one paper: from document 01's number and values the answer is read back. Assumes nothing.
 use mathlib.Core.Bool.{Bool, true, false}
 use mathlib.Core.List.{[], ◌∷◌}
-use mathlib.Core.Path.{◌≡◌, refl, sym, ap, ◌∙◌}
+use mathlib.Core.Path.{◌≡◌, refl, ap, ◌∙◌}
 use Prim.Native.Nat.{ℕ, ◌+◌}
 use lib.Dec.{eqb}
 use Rattle.lists.specs.Papers.{Paper}
@@ -170,13 +170,21 @@ truth_back (Ok b) = ap Ok (flag_back b)
 pub truth_one : (a b : Result Bool Unsound) → truth_paper a ≡ truth_paper b → a ≡ b
 truth_one = one_to_one truth_paper truth_of truth_back
 
-listed_back : (a : Result Narrow Unsound) → revision_of (listed_paper a) ≡ count_told a
+listed_back : (a : Result ℕ Unsound) → revision_of (listed_paper a) ≡ a
 unfolding revision_of listed_paper
 listed_back (Err (Rule n)) = refl
-listed_back (Ok w) = refl
+listed_back (Ok n) = refl
 
-pub listed_one : (a b : Result Narrow Unsound) → listed_paper a ≡ listed_paper b → count_told a ≡ count_told b
-listed_one a b e = sym (listed_back a) ∙ ap revision_of e ∙ listed_back b
+pub listed_one : (a b : Result ℕ Unsound) → listed_paper a ≡ listed_paper b → a ≡ b
+listed_one = one_to_one listed_paper revision_of listed_back
+
+-- the paper of an answer with its ids is that of the count
+pub count_one : (a b : Result Narrow Unsound) → listed_paper (count_told a) ≡ listed_paper (count_told b) → count_told a ≡ count_told b
+count_one a b = listed_one (count_told a) (count_told b)
+
+pub count_same : (a b : Narrow) → listed_paper (count_told (Ok a)) ≡ listed_paper (count_told (Ok b)) → a.count ≡ b.count
+unfolding listed_paper
+count_same a b = ap (λ (p : Paper). value_at p 0)
 
 -- ---- what keeps a tester present, and the holder
 needed_of : Paper → Result (Option TesterPresent) Unsound

@@ -75,9 +75,9 @@ abbrev pub count_told : Result Narrow Unsound → Result ℕ Unsound
 count_told (Err (Rule n)) = Err (Rule n)
 count_told (Ok w) = Ok w.count
 
-unfoldable pub listed_paper : Result Narrow Unsound → Paper
+unfoldable pub listed_paper : Result ℕ Unsound → Paper
 listed_paper (Err (Rule n)) = paper 12 (n ∷ [])
-listed_paper (Ok w) = paper 0 (w.count ∷ [])
+listed_paper (Ok n) = paper 0 (n ∷ [])
 
 unfoldable pub needed_paper : Result (Option TesterPresent) Unsound → Paper
 needed_paper (Err (Rule n)) = paper 12 (n ∷ [])
