@@ -92,6 +92,9 @@ pub struct BoardStep {
 pub fn matches(state: LockState, board: &[u8]) -> bool
     ensures { result ≡ matches state board.now }
 {
+    if board.len() != SIZE {
+        return false;
+    }
     let mut own = [0u8; SIZE];
     entries::fill(&mut own, state.active_locks(), LockCoverage::vehicle());
     board == own.as_slice()
@@ -163,15 +166,20 @@ fn mismatched(state: LockState) -> BoardPerformed
     }
 }
 
-// Another board: 12 comes first, and is the plain call's own answer.
-fn unmatched<T: Drop, F: FnOnce() -> T>(state: LockState, plain: F, mismatched: T) -> T
-    requires { F.IsAlwaysCallable plain }
+// Another board: 12 comes first, and is the plain call's own answer. Of the two only what is told is built.
+fn unmatched<T: Drop, F: FnOnce() -> T, G: FnOnce() -> T>(
+    state: LockState,
+    plain: F,
+    mismatched: G,
+) -> T
+    requires plain { F.IsAlwaysCallable plain }
+    requires mismatched { G.IsAlwaysCallable mismatched }
     ensures unsound { (u : Unsound) → broken_rule state ≡ Err u → F.post plain result }
-    ensures sound { broken_rule state ≡ Ok tt → result ≡ mismatched }
+    ensures sound { broken_rule state ≡ Ok tt → G.post mismatched result }
 {
     match rules::broken(state) {
         Err(_) => plain(),
-        Ok(()) => mismatched,
+        Ok(()) => mismatched(),
     }
 }
 
@@ -183,7 +191,7 @@ pub fn perform(state: LockState, request: Request, list: &[u64], board: &mut [u8
         return unmatched(
             state,
             || told(calls::perform(state, request, list)),
-            mismatched(state),
+            || mismatched(state),
         );
     }
     let done = calls::perform(state, request, list);
@@ -223,7 +231,7 @@ pub fn delete_defunct(
         return unmatched(
             state,
             || told_dropped(locks::delete_defunct(state, id, scope, subject)),
-            mismatched_dropped(state),
+            || mismatched_dropped(state),
         );
     }
     told_dropped(locks::delete_defunct(state, id, scope, subject))
@@ -292,7 +300,7 @@ pub fn step(spare: Spare, feed: &[u8], at: usize, board: &mut [u8]) -> BoardStep
         return unmatched(
             spare.state,
             || told_step(feed::step(spare, feed, at)),
-            mismatched_step(spare, at),
+            || mismatched_step(spare, at),
         );
     }
     let done = feed::step(spare, feed, at);

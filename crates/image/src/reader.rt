@@ -40,8 +40,7 @@ fn place_of(due: Due) -> u8
     }
 }
 
-// Plain parameters: for loops, and for whoever keeps the place as a number.
-pub fn step_from(image: &[u8], at: usize, due: Due) -> Stepped
+fn record_due(image: &[u8], at: usize, due: Due) -> Stepped
     ensures { result ≡ step_of image.now at due }
 {
     match frame::frame_at(image, at, place_of(due)) {
@@ -79,13 +78,24 @@ pub fn new<'a>(image: &'a [u8]) -> Reader<'a>
 pub fn next<'a>(r: Reader<'a>, due: Due) -> Moved<'a>
     ensures { result ≡ moved_of r.entry due }
 {
-    let g = step_from(r.image, r.at, due);
+    let g = record_due(r.image, r.at, due);
     Moved {
         reader: Reader {
             image: r.image,
             at: g.at,
         },
         step: g.step,
+    }
+}
+
+// Plain parameters: for loops, and for whoever keeps the place as a number.
+pub fn step_from(image: &[u8], at: usize, due: Due) -> Stepped
+    ensures { result ≡ step_of image.now at due }
+{
+    let m = next(Reader { image, at }, due);
+    Stepped {
+        step: m.step,
+        at: m.reader.at,
     }
 }
 

@@ -17,10 +17,11 @@ fn put_run<R: Entry>(out: &mut [u8], from: usize, locks: &[R])
     requires room { from + length locks.now * R.SIZE ≤ length out.old }
     ensures { out.new ≡ splice out.old from (bytes_of_run R.list locks.now) }
 {
+    let size = R::SIZE;
     let mut at = from;
     for lock in locks {
         lock.put(out, at);
-        at += R::SIZE;
+        at += size;
     }
 }
 

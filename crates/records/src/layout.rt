@@ -79,14 +79,19 @@ pub const ACTIVE_RECORD: usize = FRAME + ACTIVE;
 
 pub const DEFUNCT_RECORD: usize = FRAME + DEFUNCT;
 
-// A time alone.
-pub const TIME: usize = 8;
-
-// Feed bodies: where they begin, after the sequence. Places within them count from there.
+// Feed bodies: after the sequence, each from its first field on.
 pub const ASKED: usize = 4;
 
-// renew: the id is first.
-pub const RENEWED_EXPIRY: usize = ID;
+pub const ASKED_LOCK: usize = ASKED + ACTIVE;
+
+// A count of ids.
+pub const COUNT: usize = 2;
+
+// insert vehicle
+pub const CHILDREN: usize = ASKED_LOCK + COUNT;
+
+// renew
+pub const RENEWED_EXPIRY: usize = ASKED + ID;
 
 pub const RENEWED_NOW: usize = RENEWED_EXPIRY + 8;
 
@@ -96,21 +101,28 @@ pub const RENEWED_METADATA: usize = HAS_METADATA + 1;
 
 pub const RENEWED: usize = RENEWED_METADATA + 4;
 
-// begin expiration: the id is first.
-pub const EXPIRED_NOW: usize = ID;
+// delete and acknowledge
+pub const ASKED_ID: usize = ASKED + ID;
 
-pub const EXPIRATION: usize = EXPIRED_NOW + 8;
+// begin expiration
+pub const EXPIRATION: usize = ASKED_ID + 8;
 
-// replace: the ACTIVE body is first.
-pub const BREAKER: usize = ACTIVE;
+// replace
+pub const BREAKER: usize = ASKED_LOCK;
 
 pub const BROKEN: usize = BREAKER + 4;
 
-pub const REPLACEMENT: usize = BROKEN + 8;
+pub const ROOT_COUNT: usize = BROKEN + 8;
 
-// A count of ids, and where the ids after it begin in the whole body: of insert vehicle, of replace.
-pub const COUNT: usize = 2;
+pub const ROOTS: usize = ROOT_COUNT + COUNT;
 
-pub const CHILDREN: usize = ASKED + ACTIVE + COUNT;
+// expire defunct
+pub const EXPIRE_DEFUNCT: usize = ASKED + 8;
 
-pub const ROOTS: usize = ASKED + REPLACEMENT + COUNT;
+// The parts after the sequence that have a codec of their own, with places from the part's start: a time alone, begin
+// expiration's time, replace up to its count of ids.
+pub const TIME: usize = EXPIRE_DEFUNCT - ASKED;
+
+pub const EXPIRED_NOW: usize = ASKED_ID - ASKED;
+
+pub const REPLACEMENT: usize = ROOT_COUNT - ASKED;

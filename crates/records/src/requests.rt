@@ -11,6 +11,23 @@ use crate::{bodies, fields, kinds, layout};
 use ids::LockId;
 use state::ActiveLock;
 
+// Where the fields of a request stand in the part after the sequence number, which is what its codec is of.
+const EXPIRY: usize = layout::RENEWED_EXPIRY - layout::ASKED;
+
+const NOW: usize = layout::RENEWED_NOW - layout::ASKED;
+
+const HAS_METADATA: usize = layout::HAS_METADATA - layout::ASKED;
+
+const METADATA: usize = layout::RENEWED_METADATA - layout::ASKED;
+
+const RENEWED: usize = layout::RENEWED - layout::ASKED;
+
+const EXPIRATION: usize = layout::EXPIRATION - layout::ASKED;
+
+const BREAKER: usize = layout::BREAKER - layout::ASKED;
+
+const BROKEN: usize = layout::BROKEN - layout::ASKED;
+
 // given: whether there is new metadata. Not an Option: "metadata that doesn't apply" is a part of its own, which the writer makes
 // zero (specs/Sending.antt, `normal_renewal`; wrong/metadata_kept.edit).
 #[derive(Clone, Copy)]
@@ -65,32 +82,29 @@ impl Body for RenewRequest {
 
     ghost counts = { λ r. refl };
 
-    const SIZE: usize = layout::RENEWED;
+    const SIZE: usize = RENEWED;
 
     fn right(s: &[u8]) -> bool {
-        metadata_right(
-            fields::u8_at(s, layout::HAS_METADATA),
-            fields::u32_at(s, layout::RENEWED_METADATA),
-        )
+        metadata_right(fields::u8_at(s, HAS_METADATA), fields::u32_at(s, METADATA))
     }
 
     fn made(s: &[u8]) -> RenewRequest {
         RenewRequest {
             id: bodies::id_at(s, 0),
-            expires: fields::u64_at(s, layout::RENEWED_EXPIRY),
-            now: fields::u64_at(s, layout::RENEWED_NOW),
-            metadata: fields::u32_at(s, layout::RENEWED_METADATA),
-            given: fields::u8_at(s, layout::HAS_METADATA) == 1,
+            expires: fields::u64_at(s, EXPIRY),
+            now: fields::u64_at(s, NOW),
+            metadata: fields::u32_at(s, METADATA),
+            given: fields::u8_at(s, HAS_METADATA) == 1,
         }
     }
 
     fn put(self, out: &mut [u8]) {
         fields::put_big64(out, 0, self.id.hi);
         fields::put_big64(out, layout::HALF, self.id.lo);
-        fields::put_u64(out, layout::RENEWED_EXPIRY, self.expires);
-        fields::put_u64(out, layout::RENEWED_NOW, self.now);
-        fields::put_u8(out, layout::HAS_METADATA, bodies::flag_of(self.given));
-        fields::put_u32(out, layout::RENEWED_METADATA, self.metadata);
+        fields::put_u64(out, EXPIRY, self.expires);
+        fields::put_u64(out, NOW, self.now);
+        fields::put_u8(out, HAS_METADATA, bodies::flag_of(self.given));
+        fields::put_u32(out, METADATA, self.metadata);
     }
 }
 
@@ -106,7 +120,7 @@ impl Body for ExpirationRequest {
 
     ghost counts = { λ e. refl };
 
-    const SIZE: usize = layout::EXPIRATION;
+    const SIZE: usize = EXPIRATION;
 
     fn right(s: &[u8]) -> bool {
         true
@@ -147,15 +161,15 @@ impl Body for ReplaceRequest {
     fn made(s: &[u8]) -> ReplaceRequest {
         ReplaceRequest {
             lock: ActiveLock::made(s),
-            broken: fields::u64_at(s, layout::BROKEN),
-            breaker: fields::u32_at(s, layout::BREAKER),
+            broken: fields::u64_at(s, BROKEN),
+            breaker: fields::u32_at(s, BREAKER),
         }
     }
 
     fn put(self, out: &mut [u8]) {
         self.lock.put(out);
-        fields::put_u32(out, layout::BREAKER, self.breaker);
-        fields::put_u64(out, layout::BROKEN, self.broken);
+        fields::put_u32(out, BREAKER, self.breaker);
+        fields::put_u64(out, BROKEN, self.broken);
     }
 }
 

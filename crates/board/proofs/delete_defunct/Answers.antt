@@ -6,7 +6,7 @@ use Rattle.board.proofs.delete_defunct.Goals as goal
 
 pub returns-then-not-matches : goal.returns-then-not-matches
 returns-then-not-matches c = let a = c.args in
-    off_sound a.state _ _ _ (λ u e. let k = c.unmatched.ensures.unsound u e in search rules) (λ e. c.unmatched.ensures.sound e ∙ c.mismatched_dropped.ensures)
+    off_sound a.state _ _ _ (λ u e. let k = c.unmatched.ensures.unsound u e in search rules) (λ e. let k = c.unmatched.ensures.sound e in search rules)
     ∙ dropped_off a.state a.board.now a.id a.scope a.subject (sym c.matches.ensures ∙ c.if-not-matches.true)
 
 pub returns : goal.returns

@@ -6,7 +6,7 @@ use Rattle.board.proofs.perform.Goals as goal
 
 pub returns-then-not-matches : goal.returns-then-not-matches
 returns-then-not-matches c = let a = c.args in
-    ap (λ (x : BoardPerformed). boarded x a.board.now) (off_sound a.state _ _ _ (λ u e. let k = c.unmatched.ensures.unsound u e in search rules) (λ e. c.unmatched.ensures.sound e ∙ c.mismatched.ensures))
+    ap (λ (x : BoardPerformed). boarded x a.board.now) (off_sound a.state _ _ _ (λ u e. let k = c.unmatched.ensures.unsound u e in search rules) (λ e. let k = c.unmatched.ensures.sound e in search rules))
     ∙ call_off a.state a.board.now a.request a.list.now (sym c.matches.ensures ∙ c.if-not-matches.true)
 
 pub follow_call-requires : goal.follow_call-requires

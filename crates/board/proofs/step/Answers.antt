@@ -7,7 +7,7 @@ use Rattle.board.proofs.step.Goals as goal
 
 pub returns-then-not-matches : goal.returns-then-not-matches
 returns-then-not-matches c = let a = c.args in
-    ap (λ (x : BoardStep). boarded x a.board.now) (off_sound a.spare.state _ _ _ (λ u e. let k = c.unmatched.ensures.unsound u e in search rules) (λ e. c.unmatched.ensures.sound e ∙ c.mismatched_step.ensures))
+    ap (λ (x : BoardStep). boarded x a.board.now) (off_sound a.spare.state _ _ _ (λ u e. let k = c.unmatched.ensures.unsound u e in search rules) (λ e. let k = c.unmatched.ensures.sound e in search rules))
     ∙ step_off a.spare a.feed.now a.at a.board.now (sym c.matches.ensures ∙ c.if-not-matches.true)
 
 pub follow_record-requires : goal.follow_record-requires

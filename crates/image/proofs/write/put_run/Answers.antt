@@ -4,9 +4,7 @@ use Rattle.std.proofs.lemmas.List.{take_all}
 use Rattle.records.specs.Numbers.{splice, stored as stored_in}
 use Rattle.records.proofs.Runs.{Put, starts, turns, ends}
 use Rattle.image.specs.Image.{bytes_of_one, bytes_of_run}
-use Rattle.image.proofs.write.put_run.Given as given
 use Rattle.image.proofs.write.put_run.Goals as goal
-use Rattle.image.proofs.write.put_run.Goals.{After-SIZE-at}
 
 pub loop-lock-init : goal.loop-lock-init
 loop-lock-init g c =
@@ -14,11 +12,8 @@ loop-lock-init g c =
     record { place = omega arith; stored = p.stored }
 
 -- the record that is stored stands within the buffer
-fits : (g : given.Over) (c : After-SIZE-at g) → c.loop-lock.at + g.R.Entry.SIZE ≤ length c.args.out.now
-fits g c = omega (arith, c.requires.room, c.loop-lock.invariant.place, mul-le-mul_right {m = c.loop-lock.lock-index + 1} {n = length c.args.locks.now} g.R.Entry.SIZE (omega arith))
-
 pub overflow_add-at : goal.overflow_add-at
-overflow_add-at g c = omega (arith, fits g c, c.SIZE-at.ensures, c.well_formed)
+overflow_add-at g c = omega (arith, c.requires.room, c.loop-lock.invariant.place, mul-le-mul_right {m = c.loop-lock.lock-index + 1} {n = length c.args.locks.now} g.R.Entry.SIZE (omega arith), c.SIZE-size.ensures, c.well_formed)
 
 pub loop-lock-preserved : goal.loop-lock-preserved
 loop-lock-preserved g c =
@@ -26,7 +21,7 @@ loop-lock-preserved g c =
     let p = turns (bytes_of_one g.R.Entry.list) g.R.Entry.SIZE c.requires.size c.args.out.now c.args.from (length c.args.locks.now) c.args.locks.now (omega arith) c.requires.room c.lock-item.result l.out c.put.new.out l.lock-index c.loop-lock-test.true
     (record { most = omega arith; size = l.auto.out; stored = l.invariant.stored })
     (c.put.ensures ∙ ap₂ (λ (n : ℕ) r. stored_in l.out n (bytes_of_one g.R.Entry.list r)) l.invariant.place c.lock-item.is) in
-    record { place = omega (arith, c.SIZE-at.ensures); stored = p.stored }
+    record { place = omega (arith, c.SIZE-size.ensures); stored = p.stored }
 
 pub returns : goal.returns
 returns g c =

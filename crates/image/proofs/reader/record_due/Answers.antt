@@ -3,8 +3,8 @@ use native.Mathlib.Omega.{arith}
 use Rattle.image.specs.declared.ImageRefusal.{ImageRefusal}
 use Rattle.image.specs.Steps.{stay, step_by}
 use Rattle.image.proofs.Stepping.{step_framed, Spans, spans}
-use Rattle.image.proofs.reader.step_from.Goals as goal
-use Rattle.image.proofs.reader.step_from.Goals.{In-Ok}
+use Rattle.image.proofs.reader.record_due.Goals as goal
+use Rattle.image.proofs.reader.record_due.Goals.{In-Ok}
 
 -- the part that the frame names is within
 spanned : (c : In-Ok) → Spans c.args.image.now c.in-Ok.f
