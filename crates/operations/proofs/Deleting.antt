@@ -38,17 +38,17 @@ use Rattle.operations.specs.declared.answers.StateRefusal.TheVariants as unsound
 use Rattle.operations.specs.declared.answers.Expiration.{Expiration}
 use Rattle.operations.specs.declared.answers.Expiration.TheVariants.{Done, NotDue}
 use Rattle.operations.specs.declared.trees.Split.{Split}
-use Rattle.operations.specs.Trees.{start_parts, tree_parts}
+use Rattle.operations.specs.Trees.{Parts, start_parts, tree_parts}
 use Rattle.operations.specs.Answers.{Deleted, Expired, removing}
 use Rattle.operations.specs.Checks.{at_last_lem, last_revision}
 use Rattle.operations.specs.Code.{split_of, deletable_found, deletable, due_found, due}
 use Rattle.operations.specs.Delete.{tree_out, without_tree, deleted, delete_found, delete_on, expired, as_expired, expire_found, begin_expiration_on}
 
--- ---- the tree of r out, within the list that is held
-pub held_cut : (s : LockState) → s.actives ≤ length s.active → (r : ActiveLock) (c : Split ℕ) → Sorting (length (model_of s).active) c → parts_in (model_of s).active (halves_of c) ≡ tree_parts r (start_parts (model_of s).active)
+-- ---- the parts m of the active locks, within the list that is held
+pub held_cut : (s : LockState) → s.actives ≤ length s.active → (m : Parts) (c : Split ℕ) → Sorting (length (model_of s).active) c → parts_in (model_of s).active (halves_of c) ≡ m
     → (k w : List ActiveLock) → k ≡ in_places 64 blank_active (map (lock_at s.active) (halves_of c).kept) → w ≡ in_places 64 blank_active (map (lock_at s.active) (halves_of c).gone)
-    → record { left = c.left; kept = k; gone = c.gone; removed = w } ≡ split_of (tree_parts r (start_parts (model_of s).active))
-held_cut s h r c o p k w e f = held_split s.active s.actives h c (subst (λ (n : ℕ). Sorting n c) (length-take-le s.actives s.active h) o) k w e f ∙ ap split_of p
+    → record { left = c.left; kept = k; gone = c.gone; removed = w } ≡ split_of m
+held_cut s h m c o p k w e f = held_split s.active s.actives h c (subst (λ (n : ℕ). Sorting n c) (length-take-le s.actives s.active h) o) k w e f ∙ ap split_of p
 
 -- ---- the tree of r out
 module _ (s : LockState) (t : Tidy s) (r : ActiveLock) (x : Split ActiveLock) (f : x ≡ split_of (tree_parts r (start_parts (model_of s).active))) where

@@ -309,11 +309,11 @@ module _ (ws : List ℕ) (l : List ActiveLock) (p : length l ≤ 64) (out : Spli
   pub roots_sorting : Sorting (length l) out
   roots_sorting = rw q (sorting_of (length l) (roots_halves ws l) (all_fine (length l) l (filter (is_listed ws) l) (start_halves (length l)) (start_fine (length l) p)))
 
-  pub roots_split : (x : Split ActiveLock) → x ≡ split_of (parts_in l (halves_of out)) → x ≡ split_of (roots_parts ws l)
+  pub roots_told : parts_in l (halves_of out) ≡ roots_parts ws l
   unfolding roots_parts
-  roots_split x k =
-      k ∙ ap (λ (y : Split ℕ). split_of (parts_in l (halves_of y))) q ∙ ap (λ (y : Halves). split_of (parts_in l y)) (halves_back (roots_halves ws l))
-      ∙ ap split_of (all_in l (filter (is_listed ws) l) (start_halves (length l)) ∙ ap (cut_all (filter (is_listed ws) l)) (start_in l))
+  roots_told =
+      ap (λ (y : Split ℕ). parts_in l (halves_of y)) q ∙ ap (parts_in l) (halves_back (roots_halves ws l))
+      ∙ all_in l (filter (is_listed ws) l) (start_halves (length l)) ∙ ap (cut_all (filter (is_listed ws) l)) (start_in l)
 
 -- ---- how many there are in all
 abbrev part_size : Parts → ℕ

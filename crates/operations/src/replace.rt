@@ -84,15 +84,17 @@ fn replaced(
     let new = state::normal_form(lock);
     judged_entry(s, list, new)?;
     let cut = trees::roots_out(s.active_locks(), list);
+    // the one copy of the list: a refusal leaves the state as it was
+    let mut kept = s.active;
+    let removed = trees::moved_down(&cut, &mut kept);
     let n = cut.left;
-    judged_left(s.revision, &cut.kept[..n], new)?;
+    judged_left(s.revision, &kept[..n], new)?;
     let entries = s.defunct;
-    let removed = cut.removed;
     let table = entering::entered(entries, s.defuncts, removed, cut.gone, new, by, at);
     if (n == LockState::ACTIVE) | (LockState::DEFUNCT < table.count) {
         return Err(Refusal::NoRoom);
     }
-    let active = joined(cut.kept, n, new);
+    let active = joined(kept, n, new);
     let defunct = table.list;
     let next = LockState {
         revision: s.revision + 1,

@@ -5,12 +5,12 @@ ghost use Rattle.std.specs.Fn.{FnReturnsAt};
 ghost use Rattle.lists.specs.Places.{in_places};
 ghost use Rattle.state.specs.Locks.{blank_active};
 ghost use Rattle.operations.specs.Trees.{child_of, in_tree, tree_parts, start_parts, roots_parts};
-ghost use Rattle.operations.specs.Code.{split_of, parts_in, Sorting, Low, Tells, lock_at, start_halves, take_halves, tree_halves, root_halves, halves_of, places_of};
+ghost use Rattle.operations.specs.Code.{parts_in, Sorting, Low, Tells, lock_at, start_halves, take_halves, tree_halves, root_halves, halves_of, places_of};
 
 use state::{ActiveLock, LockState};
 
 // What stays, and what went, in the order of its going: places in the list that came in, so that each lock is moved once,
-// at the end; then the locks at them.
+// at the end; the proofs speak so of the locks at them, too.
 #[derive(Clone, Copy)]
 pub(crate) struct Split<T> {
     pub left: usize,
@@ -135,18 +135,6 @@ pub(crate) fn moved_down(
     removed
 }
 
-fn moved(s: &Split<usize>, locks: &[ActiveLock]) -> Split<ActiveLock>
-    requires { Sorting (length locks.now) s.now × (length locks.now ≤ 64) }
-    ensures { result ≡ split_of (parts_in locks.now (halves_of s.now)) }
-{
-    Split {
-        left: s.left,
-        kept: locks_at(locks, &s.kept[..s.left]),
-        gone: s.gone,
-        removed: locks_at(locks, &s.removed[..s.gone]),
-    }
-}
-
 // The places without the tree of r.
 pub(crate) fn tree_out(locks: &[ActiveLock], r: &ActiveLock) -> Split<usize>
     requires { length locks.now ≤ 64 }
@@ -156,10 +144,11 @@ pub(crate) fn tree_out(locks: &[ActiveLock], r: &ActiveLock) -> Split<usize>
     cut_tree(&all_places(locks.len()), locks, r)
 }
 
-// The locks without the trees of the listed roots, ascending, each from what then remains.
-pub(crate) fn roots_out(locks: &[ActiveLock], list: &[u64]) -> Split<ActiveLock>
+// The places without the trees of the listed roots, ascending, each from what then remains.
+pub(crate) fn roots_out(locks: &[ActiveLock], list: &[u64]) -> Split<usize>
     requires { length locks.now ≤ 64 }
-    ensures { result ≡ split_of (roots_parts list.now locks.now) }
+    ensures sorting { Sorting (length locks.now) result }
+    ensures parts { parts_in locks.now (halves_of result) ≡ roots_parts list.now locks.now }
 {
     let mut out = all_places(locks.len());
     for r in locks {
@@ -167,5 +156,5 @@ pub(crate) fn roots_out(locks: &[ActiveLock], list: &[u64]) -> Split<ActiveLock>
             out = root_out(&out, locks, r);
         }
     }
-    moved(&out, locks)
+    out
 }

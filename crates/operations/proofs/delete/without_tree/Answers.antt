@@ -15,7 +15,7 @@ fit : (g : _) (c : After-s-2-1 g) → c.args.s.now.actives ≤ length c.args.s.n
 fit g c = let e : length c.args.s.now.active ≡ 64 = search (rules, length_of_mapped) in omega (arith, e, c.requires.0.active)
 
 cut : (g : _) (c : After-s-2-1 g) → record { left = c.tree_out-cut.result.left; kept = c.moved_down-removed.new.locks; gone = c.tree_out-cut.result.gone; removed = c.moved_down-removed.result } ≡ split_of (tree_parts c.args.root (start_parts (model_of c.args.s.now).active))
-cut g c = held_cut c.args.s.now (fit g c) c.args.root c.tree_out-cut.result (rw c.active_locks.ensures at c.tree_out-cut.ensures.sorting) (rw c.active_locks.ensures at c.tree_out-cut.ensures.parts) _ _ c.moved_down-removed.ensures.kept c.moved_down-removed.ensures.removed
+cut g c = held_cut c.args.s.now (fit g c) _ c.tree_out-cut.result (rw c.active_locks.ensures at c.tree_out-cut.ensures.sorting) (rw c.active_locks.ensures at c.tree_out-cut.ensures.parts) _ _ c.moved_down-removed.ensures.kept c.moved_down-removed.ensures.removed
 
 pub returns-clause-state : goal.returns-clause-state
 returns-clause-state g c = cut_state c.args.s.now c.requires.0 c.args.root _ (cut g c)

@@ -2,7 +2,7 @@ use mathlib.Core.Path.{◌≡◌, ◌∙◌}
 use native.Mathlib.Omega.{arith}
 use Rattle.state.specs.Locks.{blank_active}
 use Rattle.operations.specs.Code.{places_of, roots_halves}
-use Rattle.operations.proofs.Going.{out_sorting, roots_more, roots_same, roots_sorting, roots_split, roots_all}
+use Rattle.operations.proofs.Going.{out_sorting, roots_more, roots_same, roots_sorting, roots_told, roots_all}
 use Rattle.operations.proofs.trees.roots_out.Goals as goal
 use Rattle.operations.proofs.trees.roots_out.Goals.{then-listed, else-listed}
 
@@ -19,8 +19,10 @@ loop-r-preserved c =
       | else-listed w ↦ w.out-is ∙ roots_same ws l c.loop-r.r-index c.requires _ c.loop-r.invariant blank_active c.loop-r-test.true _ c.listed.ensures w.if-listed.false
     ]
 
-pub moved-requires : goal.moved-requires
-moved-requires c = (roots_sorting c.args.list.now c.args.locks.now c.requires _ (roots_all c.args.list.now c.args.locks.now _ c.loop-r-test.false _ c.loop-r.invariant), c.requires)
-
 pub returns : goal.returns
-returns c = roots_split c.args.list.now c.args.locks.now c.requires _ (roots_all c.args.list.now c.args.locks.now _ c.loop-r-test.false _ c.loop-r.invariant) _ c.moved.ensures
+returns c =
+    let e = roots_all c.args.list.now c.args.locks.now _ c.loop-r-test.false _ c.loop-r.invariant in
+    record {
+      sorting = roots_sorting c.args.list.now c.args.locks.now c.requires _ e;
+      parts = roots_told c.args.list.now c.args.locks.now c.requires _ e;
+    }
