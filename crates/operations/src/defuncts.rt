@@ -11,8 +11,8 @@ ghost use Rattle.state.specs.Model.{model_of};
 ghost use Rattle.operations.specs.Defuncts.{remove_all, superseded};
 ghost use Rattle.operations.specs.Code.{took_over, gone_key, left_by, entry_at, last_from, landed, Led, Ready, Settled, Tells, with_entries};
 
+use crate::ordered;
 use ids::LockId;
-use rules::rows;
 use rules::rows::Keyed;
 use state::{ActiveLock, DefunctLock, LockState};
 
@@ -76,7 +76,7 @@ fn steps(gone: &[Gone]) -> [usize; LockState::DEFUNCT]
 {
     let mut out = [0usize; LockState::DEFUNCT];
     for (i, g) in gone.iter().enumerate() {
-        out[i] = rows::place(gone, g.target).unwrap_or(gone.len());
+        out[i] = ordered::place(gone, g.target).unwrap_or(gone.len());
     }
     out
 }
@@ -105,7 +105,7 @@ fn handed_on(gone: &[Gone], next: &[usize], d: DefunctLock) -> DefunctLock
     ensures { (l : List DefunctLock) → gone.now ≡ map left_by l → Yes (ascending dkey l) → Led l (length l) next.now → result ≡ landed l d }
 {
     let n = gone.len();
-    let k = last_of(next, n, rows::place(gone, d.target).unwrap_or(n));
+    let k = last_of(next, n, ordered::place(gone, d.target).unwrap_or(n));
     if n <= k {
         return d;
     }

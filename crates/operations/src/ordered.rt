@@ -1,12 +1,26 @@
 // Locks in the order of their ids.
 // SPDX-License-Identifier: Apache-2.0
-ghost use Rattle.std.specs.Prelude.{◌≡◌, ℕ, ◌-◌, ◌≤◌, ◌<◌, length, take, ltb};
+ghost use Rattle.std.specs.Prelude.{◌≡◌, ℕ, ◌-◌, ◌≤◌, ◌<◌, true, length, take, ltb, position};
 ghost use Rattle.std.specs.List.{position_or_len};
-ghost use Rattle.lists.specs.Lists.{insert_by};
+ghost use Rattle.lists.specs.Lists.{ascending, insert_by};
 ghost use Rattle.ids.specs.Order.{key};
+ghost use Rattle.rules.specs.Code.{keyed};
 
 use ids::LockId;
 use rules::rows::Keyed;
+
+// The place of an id in a list that ascends. rules has the same: of another list it promises nothing, so neither is public.
+pub(crate) fn place<T: Keyed>(rows: &[T], id: LockId) -> Option<usize>
+    ensures { ascending T.row_key rows.now ≡ true → result ≡ position (keyed T.row_key (key id)) rows.now }
+{
+    let k = rows.partition_point(|x| ids::less(x.id(), id));
+    if k < rows.len() {
+        if ids::same(rows[k].id(), id) {
+            return Some(k);
+        }
+    }
+    None
+}
 
 // Where what has the id comes: before the first of the items that it comes before.
 fn place_of<T: Keyed>(items: &[T], id: LockId) -> usize

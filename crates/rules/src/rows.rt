@@ -103,8 +103,9 @@ pub(crate) fn rising<T: Keyed>(rows: &[T]) -> bool
     rows.is_sorted_by(|a, b| ids::less(a.id(), b.id()))
 }
 
-// The place of an id in a list that ascends.
-pub fn place<T: Keyed>(rows: &[T], id: LockId) -> Option<usize>
+// The place of an id in a list that ascends. Of another list it promises nothing, so it is the crate's own: operations has one
+// too (docs/DECISIONS.md).
+pub(crate) fn place<T: Keyed>(rows: &[T], id: LockId) -> Option<usize>
     ensures { ascending T.row_key rows.now ≡ true → result ≡ position (keyed T.row_key (key id)) rows.now }
 {
     let k = rows.partition_point(|x| ids::less(x.id(), id));
