@@ -5,24 +5,16 @@
 ghost use Rattle.std.specs.Prelude.{◌≡◌, length};
 ghost use Rattle.feed.specs.Runs.{run_on};
 
-use feed::events::Step;
 use feed::{events, numbers};
 use image::Spare;
 
 // Sequence, answer, revision, active, defunct. A line that can't be written is passed over: the spare after the feed doesn't
-// depend on who reads the lines.
-fn print_line(rt: &impl Print, s: &Step) {
-    let told = &s.told;
-    let number = numbers::number(told.event);
-    let state = &s.spare.state;
-    let _ = println!(rt;
-        "{} {number} {} {} {}",
-        told.sequence, state.revision, state.actives, state.defuncts
-    );
+// depend on who reads the lines. The numbers come by value: of a step that is lent to be printed no copy can be left out.
+fn print_line(rt: &impl Print, sequence: u32, number: u64, revision: u64, counts: (usize, usize)) {
+    let _ = println!(rt; "{sequence} {number} {revision} {} {}", counts.0, counts.1);
 }
 
-fn print_bad(rt: &impl Print, s: &Step, at: usize) {
-    let number = numbers::number(s.told.event);
+fn print_bad(rt: &impl Print, number: u64, at: usize) {
     let _ = println!(rt; "bad {number} {at}");
 }
 
@@ -35,12 +27,14 @@ pub fn play(rt: &impl Print, start: Spare, feed: &[u8]) -> Spare
     // a record at a time, each as long as it says
     while at < feed.len() {
         let s = feed::step(spare, feed, at);
+        let number = numbers::number(s.told.event);
         if events::stops(s.told.event) {
-            print_bad(rt, &s, at);
+            print_bad(rt, number, at);
             return spare;
         }
-        print_line(rt, &s);
         spare = s.spare;
+        let counts = (spare.state.actives, spare.state.defuncts);
+        print_line(rt, s.told.sequence, number, spare.state.revision, counts);
         at = s.told.next;
     }
     spare
