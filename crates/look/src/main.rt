@@ -8,55 +8,53 @@ use lookups::reads;
 use printing::text::IdText;
 use state::{ActiveLock, DefunctLock, LockState};
 use std::env::FillError;
-use std::io;
 use std::rt::Runtime;
 use text::LockText;
 
 mod text;
 
-fn active(rt: &impl Print, a: &ActiveLock) -> io::Result<()> {
-    print!(rt; "active {} expires {}", LockText(a.lock), a.expires)?;
+// What can't be written is passed over, here and below: what comes after it is tried all the same.
+fn active(rt: &impl Print, a: &ActiveLock) {
+    let _ = print!(rt; "active {} expires {}", LockText(a.lock), a.expires);
     if a.child {
-        print!(rt; " parent {}", IdText(a.parent))?;
+        let _ = print!(rt; " parent {}", IdText(a.parent));
     }
-    rt.println("")
+    let _ = rt.println("");
 }
 
-fn defunct(rt: &impl Print, s: &LockState, d: &DefunctLock) -> io::Result<()> {
-    print!(rt;
+fn defunct(rt: &impl Print, s: &LockState, d: &DefunctLock) {
+    let _ = print!(rt;
         "defunct {} expires {} broken at {} by {}",
         LockText(d.lock),
         d.expires,
         d.broken,
         d.breaker
-    )?;
-    print!(rt; " replaced by {} of {}", IdText(d.target), d.holder)?;
+    );
+    let _ = print!(rt; " replaced by {} of {}", IdText(d.target), d.holder);
     // Who holds what replaced it, after so many links of defunct entries.
     if let Ok(h) = reads::current_holder(*s, *d) {
-        print!(rt; " now held by {} links {}", h.subject, h.links)?;
+        let _ = print!(rt; " now held by {} links {}", h.subject, h.links);
     }
-    rt.println("")
+    let _ = rt.println("");
 }
 
-fn whole(rt: &impl Print, spare: &Spare) -> io::Result<()> {
+fn whole(rt: &impl Print, spare: &Spare) {
     let s = &spare.state;
-    println!(rt;
+    let _ = println!(rt;
         "revision {} expected {} active {} defunct {}",
         s.revision, spare.expected, s.actives, s.defuncts
-    )?;
+    );
     for a in s.active.iter().take(s.actives) {
-        active(rt, a)?;
+        active(rt, a);
     }
     for d in s.defunct.iter().take(s.defuncts) {
-        defunct(rt, s, d)?;
+        defunct(rt, s, d);
     }
-    Ok(())
 }
 
-// A line that can't be written ends the image's: the next one is looked into all the same.
 fn look(rt: &impl Print, given: Option<Spare>) {
     if let Some(spare) = given {
-        let _ = whole(rt, &spare);
+        whole(rt, &spare);
     }
 }
 

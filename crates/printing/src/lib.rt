@@ -1,8 +1,9 @@
-// What programs tell a person: ids, why a file can't be used, and the image in a named file, or why it is refused.
+// What programs read of a file, and what they tell a person: ids, why a file can't be used, and the image in a named file, or
+// why it is refused.
 // SPDX-License-Identifier: Apache-2.0
 #![tactic(auto)]
 
-ghost use Rattle.std.specs.Prelude.{◌≡◌};
+ghost use Rattle.std.specs.Prelude.{◌≡◌, ◌≤◌, length};
 ghost use Rattle.printing.specs.Files.{given_by, FromBytes};
 
 use image::{ImageRefusal, Spare, read};
@@ -39,22 +40,37 @@ fn read_bytes(rt: &impl Print, image: &[u8]) -> Option<Spare>
     }
 }
 
-// No image is as long as what is read of it at most: one that is longer has extra bytes. A read that fails ends it; one that
-// memory ran out for gives no image.
-fn read_from(rt: &(impl Print + Eprint + Alloc), from: impl Read + Drop) -> Option<Spare>
-    ensures { FromBytes result }
+// Reads until the buffer is full, the input ends or a read fails: how many bytes stand in it. Each read asks for all that is
+// left, since what a packet holds beyond that is lost. A read that is interrupted is made again.
+pub fn read_full(mut from: impl Read + Drop, into: &mut [u8]) -> usize
+    ensures { result ≤ length into.new }
 {
-    let mut bytes = Vec::new(rt.alloc());
-    if let Err(error) = from.take(65536).read_to_end(&mut bytes) {
-        if let ErrorKind::OutOfMemory = error.kind() {
-            fail(rt, "read", error);
-            return None;
+    let mut done = 0;
+    for _ in 0..u64::MAX {
+        if done == into.len() {
+            break;
+        }
+        match from.read(&mut into[done..]) {
+            Ok(0) => break,
+            Ok(n) => done += n,
+            Err(e) if e.kind() == ErrorKind::Interrupted => {}
+            Err(_) => break,
         }
     }
-    read_bytes(rt, bytes.as_slice())
+    done
 }
 
-// The system's words alone: std's text of an error has its number after them.
+// No image is as long as the buffer: one that fills it has extra bytes. Not on the heap: an image is shown where memory is short.
+fn read_from(rt: &impl Print, from: impl Read + Drop) -> Option<Spare>
+    ensures { FromBytes result }
+{
+    let mut bytes = [0u8; 65536];
+    let n = read_full(from, &mut bytes);
+    read_bytes(rt, &bytes[..n])
+}
+
+// The system's words alone: std's text of an error has its number after them. Nothing is told where memory for that text runs
+// out. Pub for spare, which tells the same of its files.
 pub fn fail(rt: &(impl Eprint + Alloc), what: &str, error: io::Error) {
     if let Ok(text) = format!(in rt.alloc(); "{error}") {
         let words = text.as_str().split(" (os error ").next().unwrap_or("");

@@ -16,7 +16,6 @@ use printing::text::IdText;
 use records::requests;
 use state::LockState;
 use std::env::FillError;
-use std::io;
 use std::rt::Env;
 
 // The board of a sound state: into a buffer of its size it is never refused.
@@ -41,32 +40,31 @@ fn id_in(bytes: &[u8]) -> LockId
     }
 }
 
-fn line(rt: &impl Print, e: usize, entry: &[u8]) -> io::Result<()>
+// What can't be written is passed over: the next line is tried all the same.
+fn line(rt: &impl Print, e: usize, entry: &[u8])
     requires { length entry.now ≡ 17 }
 {
     let count = entry[0];
     if count == 0 {
-        return Ok(());
+        return;
     }
-    println!(rt;
+    let _ = println!(rt;
         "ecu {e} locks {count} lowest {}",
         IdText(id_in(&entry[1..]))
-    )
+    );
 }
 
-fn lines(rt: &impl Print, board: &[u8]) -> io::Result<()> {
+fn lines(rt: &impl Print, board: &[u8]) {
     for (e, entry) in board.chunks_exact(board::ENTRY).enumerate() {
-        line(rt, e, entry)?;
+        line(rt, e, entry);
     }
-    Ok(())
 }
 
 fn screen(rt: &impl Print, given: Option<Spare>)
     requires { FromBytes given }
 {
-    // What can't be written is passed over.
     if let Some(spare) = given {
-        let _ = lines(rt, &board_of(spare.state));
+        lines(rt, &board_of(spare.state));
     }
 }
 

@@ -7,7 +7,7 @@ use image::{ImageRefusal, Spare, read, write};
 use state::LockState;
 use std::env::FillError;
 use std::fs::File;
-use std::io::{ErrorKind, Read, Write};
+use std::io::Write;
 use std::rt::{Env, Runtime};
 use std::{io, str};
 
@@ -51,21 +51,14 @@ fn is_dash(rt: &impl Env, i: usize) -> bool {
     &word[..n] == b"-".as_slice()
 }
 
-// What stands in the file that argument i names, and no byte after the limit. A read that fails ends it; one that memory ran
-// out for gives nothing, since a feed that is cut short would be played as a whole one.
-fn bytes_of<R: Runtime>(rt: &R, i: usize, limit: u64) -> Option<Vec<u8, R::A>> {
-    let mut bytes = Vec::new(rt.alloc());
+// What the buffer takes of the file that argument i names.
+fn bytes_of<'a>(rt: &impl Runtime, i: usize, buffer: &'a mut [u8]) -> Option<&'a [u8]> {
     let file = open(rt, i, |path| File::open(rt, path))?;
-    if let Err(error) = file.take(limit).read_to_end(&mut bytes) {
-        if let ErrorKind::OutOfMemory = error.kind() {
-            printing::fail(rt, "spare BASE FEED NEW", error);
-            return None;
-        }
-    }
-    Some(bytes)
+    let n = printing::read_full(file, buffer);
+    Some(&buffer[..n])
 }
 
-// A base that can't be opened reads as no bytes: 17 at 0. No image is as long as what is read of it at most.
+// A base that can't be opened reads as no bytes: 17 at 0. No image is as long as the buffer.
 fn base(rt: &impl Runtime) -> Option<Spare> {
     if is_dash(rt, 1) {
         return Some(Spare {
@@ -73,10 +66,9 @@ fn base(rt: &impl Runtime) -> Option<Spare> {
             expected: 0,
         });
     }
-    match bytes_of(rt, 1, 65536) {
-        Some(bytes) => accepted(rt, bytes.as_slice()),
-        None => accepted(rt, b""),
-    }
+    let mut buffer = [0u8; 65536];
+    let image = bytes_of(rt, 1, &mut buffer).unwrap_or(b"");
+    accepted(rt, image)
 }
 
 fn accepted(rt: &impl Print, image: &[u8]) -> Option<Spare> {
@@ -121,17 +113,18 @@ fn run(rt: &impl Runtime, start: Spare, feed: &[u8]) {
     }
 }
 
-// One byte more is read than a feed may have, so that a longer one is seen.
+// The buffer has one byte more than a feed may have, so that a longer one is seen.
 fn main(rt: HostRuntime) {
     let Some(start) = base(&rt) else {
         return;
     };
-    let Some(feed) = bytes_of(&rt, 2, 65537) else {
+    let mut buffer = [0u8; 65537];
+    let Some(feed) = bytes_of(&rt, 2, &mut buffer) else {
         return;
     };
     if 65536 < feed.len() {
         let _ = rt.println("long");
         return;
     }
-    run(&rt, start, feed.as_slice());
+    run(&rt, start, feed);
 }
