@@ -59,16 +59,18 @@ fn bytes_of<'a>(rt: &impl Runtime, i: usize, buffer: &'a mut [u8]) -> Option<&'a
 }
 
 // A base that can't be opened reads as no bytes: 17 at 0. No image is as long as the buffer.
-fn base(rt: &impl Runtime) -> Option<Spare> {
+fn base(rt: &impl Runtime, buffer: &mut [u8]) -> Option<Spare> {
     if is_dash(rt, 1) {
         return Some(Spare {
             state: LockState::empty(),
             expected: 0,
         });
     }
-    let mut buffer = [0u8; 65536];
-    let image = bytes_of(rt, 1, &mut buffer).unwrap_or(b"");
-    accepted(rt, image)
+    // called at two places, so that what it needs of the stack is given back before the feed is played
+    match bytes_of(rt, 1, buffer) {
+        Some(image) => accepted(rt, image),
+        None => accepted(rt, b""),
+    }
 }
 
 fn accepted(rt: &impl Print, image: &[u8]) -> Option<Spare> {
@@ -113,12 +115,12 @@ fn run(rt: &impl Runtime, start: Spare, feed: &[u8]) {
     }
 }
 
-// The buffer has one byte more than a feed may have, so that a longer one is seen.
+// The buffer has one byte more than a feed may have, so that a longer one is seen; the base is read into it before.
 fn main(rt: HostRuntime) {
-    let Some(start) = base(&rt) else {
+    let mut buffer = [0u8; 65537];
+    let Some(start) = base(&rt, &mut buffer[..65536]) else {
         return;
     };
-    let mut buffer = [0u8; 65537];
     let Some(feed) = bytes_of(&rt, 2, &mut buffer) else {
         return;
     };
