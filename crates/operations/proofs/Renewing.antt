@@ -7,11 +7,12 @@ use Prim.Native.Nat.{ℕ, ◌+◌}
 use lib.Dec.{leb, eqb}
 use borrow.Author.Tests.{eq-eqb}
 use lib.ListN.{length-map}
+use Rattle.lists.specs.Lists.{find}
 use Rattle.lists.specs.Places.{in_places}
 use Rattle.ids.specs.declared.LockId.{LockId}
 use Rattle.state.specs.declared.ActiveLock.{ActiveLock}
 use Rattle.state.specs.declared.LockState.{LockState}
-use Rattle.state.specs.Locks.{blank_active}
+use Rattle.state.specs.Locks.{has_id, blank_active}
 use Rattle.state.specs.Model.{model_of, state_of, Tidy}
 use Rattle.state.proofs.Laws.{active_count, defunct_count, defunct_in_lem}
 use Rattle.std.specs.Prelude.{Result, Ok, Err, ⊤, Option, None, Some}
@@ -25,7 +26,8 @@ use Rattle.operations.specs.declared.answers.RenewalRefusal.TheVariants.{Revisio
 use Rattle.operations.specs.Answers.{Renewed, refuse_if}
 use Rattle.operations.specs.Checks.{at_last_lem, last_revision}
 use Rattle.operations.specs.Renew.{extend_at, renewed_in, judge_lock, judge_found, judge_renew, renewed, settled_renew, renew_on}
-use Rattle.operations.specs.Code.{renewable}
+use Rattle.lookups.proofs.Verdicts.{on_sound_lem}
+use Rattle.operations.specs.Code.{renewable, judged_found, judged_in}
 
 -- where nothing is refused, the revision can rise
 can_rise : (r e now : ℕ) (a : ActiveLock) → is_ok (judge_lock r e now a) ≡ true → r ≡ last_revision → ⊥
@@ -37,6 +39,15 @@ can_rise r e now a f q = go (leb a.expires now) (leb e a.expires) (eqb r last_re
     go false true z p g = false≢true g
     go false false true p g = false≢true g
     go false false false p g = false≢true p
+
+-- of a sound state the judge of its locks answers as the test and the judge of it
+pub tested : (s : LockState) (i : LockId) (e now : ℕ) (v : Result ⊤ Unsound) → v ≡ broken_rule s → v ≡ Ok tt → (a : Result ⊤ RenewalRefusal) → a ≡ judged_in (model_of s).active s.revision i e now → a ≡ renewable s i e now
+unfolding renewable judged_in judge_renew
+tested s i e now v g f a k = k ∙ same (find (has_id i) (model_of s).active) ∙ on_sound_lem s (λ n. Err (UnsoundState n)) (judge_found (model_of s) i e now (find (has_id i) (model_of s).active)) v g f
+  where
+    same : (o : Option ActiveLock) → judged_found s.revision i e now o ≡ judge_found (model_of s) i e now o
+    same None = refl
+    same (Some l) = refl
 
 -- i the id, e the new expiry, has and d the metadata
 module _ (s : LockState) (i : LockId) (e now : ℕ) (has : Bool) (d : ℕ) where

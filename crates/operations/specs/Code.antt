@@ -39,7 +39,7 @@ use Rattle.operations.specs.Answers.{refuse_if, and_then, first_refusal}
 use Rattle.operations.specs.Defuncts.{redirect}
 use Rattle.operations.specs.Checks.{parent_of, check_id, check_scope, check_clear, check_revision, check_room, check_active, check_listed, check_child, check_holder, at_last_lem}
 use Rattle.operations.specs.Insert.{inserted_in}
-use Rattle.operations.specs.Renew.{judge_renew}
+use Rattle.operations.specs.Renew.{judge_lock, judge_renew}
 use Rattle.operations.specs.Acknowledge.{shed}
 use Rattle.operations.specs.Vehicle.{adopt}
 use Rattle.operations.specs.Replace.{orphan, entered_of, replaced, settled_replace}
@@ -309,6 +309,14 @@ closing n = cond (is_sound (broken_rule n)) (Ok tt) (Err Invariant)
 -- renew
 unfoldable pub renewable : LockState → LockId → ℕ → ℕ → Result ⊤ RenewalRefusal
 renewable s id expires now = on_sound s (λ n. Err (renewal.UnsoundState n)) (judge_renew (model_of s) id expires now)
+
+-- the same of the active locks of a sound state and its revision
+abbrev pub judged_found : ℕ → LockId → ℕ → ℕ → Option ActiveLock → Result ⊤ RenewalRefusal
+judged_found revision id expires now None = Err (renewal.ActiveLockNotFound id)
+judged_found revision id expires now (Some lock) = judge_lock revision expires now lock
+
+unfoldable pub judged_in : List ActiveLock → ℕ → LockId → ℕ → ℕ → Result ⊤ RenewalRefusal
+judged_in locks revision id expires now = judged_found revision id expires now (find (has_id id) locks)
 
 -- delete and begin_expiration: the lock that goes with its tree
 abbrev pub deletable_found : LockState → LockId → Option ActiveLock → Result ActiveLock DeletionRefusal

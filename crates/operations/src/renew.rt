@@ -1,10 +1,10 @@
 // Renewal of an active lock: 12, 3, 9, 10, 8.
 // SPDX-License-Identifier: Apache-2.0
-#![tactic(auto, unfolding(crate::specs::Answers::refuse_if, crate::specs::Answers::and_then, crate::specs::Answers::is_done, lookups::specs::Reads::on_sound, crate::specs::Checks::at_last_lem, crate::specs::Renew::judge_renew, crate::specs::Code::renewable))]
+#![tactic(auto, unfolding(crate::specs::Answers::refuse_if, crate::specs::Answers::and_then, crate::specs::Answers::is_done, lookups::specs::Reads::on_sound, crate::specs::Checks::at_last_lem, crate::specs::Code::judged_in))]
 
 ghost use Rattle.std.specs.Prelude.{map, ◌≡◌};
 ghost use Rattle.operations.specs.Renew.{extended, extend_at, judge_lock, renew_on};
-ghost use Rattle.operations.specs.Code.{renewable};
+ghost use Rattle.operations.specs.Code.{judged_in};
 
 use crate::answers::{RenewalRefusal, Renewed};
 use crate::checks;
@@ -38,14 +38,19 @@ fn judge(a: ActiveLock, revision: u64, expires: u64, now: u64) -> Result<(), Ren
     Ok(())
 }
 
-// What refuses: 12, 3, 9, 10, 8.
-fn allowed(s: &LockState, id: LockId, expires: u64, now: u64) -> Result<(), RenewalRefusal>
-    ensures { result ≡ renewable s.now id expires now }
+// What refuses on a sound state: 3, 9, 10, 8.
+fn allowed(
+    locks: &[ActiveLock],
+    revision: u64,
+    id: LockId,
+    expires: u64,
+    now: u64,
+) -> Result<(), RenewalRefusal>
+    ensures { result ≡ judged_in locks.now revision id expires now }
 {
-    rules::broken(*s)?;
-    let found = checks::lock_with(s.active_locks(), id);
+    let found = checks::lock_with(locks, id);
     let lock = found.ok_or(RenewalRefusal::ActiveLockNotFound(id))?;
-    judge(lock, s.revision, expires, now)
+    judge(lock, revision, expires, now)
 }
 
 fn extend_in(locks: &mut [ActiveLock], id: LockId, expires: u64, given: bool, metadata: u32)
@@ -59,7 +64,7 @@ fn extend_in(locks: &mut [ActiveLock], id: LockId, expires: u64, given: bool, me
 }
 
 // The lock's expires_at moves on, its metadata too where some is given. The state that comes of it is sound and is not tested
-// again (C-21; promises, closing_idle).
+// again (C-21; promises, closing_idle). The state is not lent here: what is lent is copied once more for the test by value.
 pub fn renew(
     mut s: LockState,
     id: LockId,
@@ -70,12 +75,18 @@ pub fn renew(
 ) -> Renewed
     ensures { result ≡ renew_on s id expires now given metadata }
 {
-    let told = allowed(&s, id, expires, now);
-    if told.is_ok() {
-        let mut locks = s.active;
-        extend_in(&mut locks[..s.actives], id, expires, given, metadata);
-        s.active = locks;
-        s.revision += 1;
-    }
+    let told = match rules::broken(s) {
+        Ok(()) => {
+            let mut locks = s.active;
+            let told = allowed(&locks[..s.actives], s.revision, id, expires, now);
+            if told.is_ok() {
+                extend_in(&mut locks[..s.actives], id, expires, given, metadata);
+                s.active = locks;
+                s.revision += 1;
+            }
+            told
+        }
+        Err(unsound) => Err(RenewalRefusal::from(unsound)),
+    };
     Renewed { told, state: s }
 }
