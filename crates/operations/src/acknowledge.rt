@@ -2,9 +2,10 @@
 // SPDX-License-Identifier: Apache-2.0
 #![tactic(auto, unfolding(crate::specs::Answers::refuse_if, crate::specs::Answers::and_then, crate::specs::Answers::is_done, lookups::specs::Reads::on_sound, crate::specs::Checks::at_last_lem, crate::specs::Acknowledge::lapsed))]
 
-ghost use Rattle.std.specs.Prelude.{◌≡◌, [], length};
+ghost use Rattle.std.specs.Prelude.{◌≡◌, [], Ok, length};
 ghost use Rattle.lists.specs.Places.{in_places};
 ghost use Rattle.ids.specs.Order.{no_id};
+ghost use Rattle.rules.specs.Rules.{broken_rule};
 ghost use Rattle.operations.specs.Acknowledge.{acknowledged, acknowledge_on, lapsed, expire_defunct_on};
 ghost use Rattle.operations.specs.Code.{expired_by};
 
@@ -16,10 +17,9 @@ use state::{DefunctLock, LockState};
 // ---- acknowledge_defunct
 // Whether there was such an entry, which then goes. 8 comes after the change, which it does not undo.
 fn acknowledged(s: &mut LockState, id: LockId) -> Result<bool, StateRefusal>
-    requires { (length s.old.active ≡ 64) × (length s.old.defunct ≡ 128) }
+    requires { (length s.old.active ≡ 64) × (length s.old.defunct ≡ 128) × (broken_rule s.old ≡ Ok tt) }
     ensures { acknowledged result s.new ≡ acknowledge_on s.old id }
 {
-    rules::broken(*s)?;
     if !s
         .defunct_locks()
         .iter()
@@ -35,10 +35,14 @@ fn acknowledged(s: &mut LockState, id: LockId) -> Result<bool, StateRefusal>
     Ok(true)
 }
 
+// The test comes before the state is lent: of what is lent it would take a copy, on the deepest way that there is.
 pub fn acknowledge_defunct(mut s: LockState, id: LockId) -> Acknowledged
     ensures { result ≡ acknowledge_on s id }
 {
-    let told = acknowledged(&mut s, id);
+    let told = match rules::broken(s) {
+        Ok(()) => acknowledged(&mut s, id),
+        Err(unsound) => Err(StateRefusal::from(unsound)),
+    };
     Acknowledged { told, state: s }
 }
 
