@@ -71,8 +71,9 @@ fn first_entry(s: &LockState) -> LockId {
     s.defunct[0].lock.id
 }
 
-// ---- one call of each. They are called from two places, as `called` is made for each of its closures, so that the compiler leaves
-// each a function of its own, whose frame bench/stack reads.
+// ---- one call of each. Both functions after them call them, so that the compiler leaves each a function of its own, whose
+// frame bench/stack reads. One function for both, with a closure for what is read (tried), clears and copies each answer once
+// more in every turn.
 fn insert_active(s: LockState) -> Inserted {
     insert::insert_active(s, new_lock(ScopeKey::Ecu(255)))
 }
@@ -108,49 +109,30 @@ fn expire_defunct(s: LockState) -> DefunctsExpired {
     acknowledge::expire_defunct(s, 18446744073709551615)
 }
 
-// What is read of an operation's answer, as its number, and of the state that it left. The operations go by the numbers that
-// bench/run and bench/copies send.
-fn called<F: Fn(u64, &LockState) -> u64>(s: LockState, what: u8, read: F) -> u64
-    requires { F.IsAlwaysCallable read }
-{
+fn changed(s: LockState, what: u8, total: u64) -> u64 {
     match what {
-        2 => {
-            let r = insert_active(s);
-            read(numbers::of_answer(r.told), &r.state)
-        }
-        3 => {
-            let r = insert_vehicle(s);
-            read(numbers::of_answer(r.told), &r.state)
-        }
-        4 => {
-            let r = renew(s);
-            read(numbers::of_renewal(r.told), &r.state)
-        }
-        5 => {
-            let r = delete(s);
-            read(numbers::of_deletion(r.told.answer), &r.state)
-        }
-        6 => {
-            let r = begin_expiration(s);
-            read(numbers::of_expiration(r.told.answer), &r.state)
-        }
-        7 => {
-            let r = commit_replacement(s);
-            read(numbers::of_answer(r.told.answer), &r.state)
-        }
-        8 => {
-            let r = acknowledge_defunct(s);
-            read(numbers::of_acknowledgement(r.told), &r.state)
-        }
-        _ => {
-            let r = expire_defunct(s);
-            read(numbers::of_expiry(r.told.answer), &r.state)
-        }
+        2 => sum(&insert_active(s).state, total),
+        3 => sum(&insert_vehicle(s).state, total),
+        4 => sum(&renew(s).state, total),
+        5 => sum(&delete(s).state, total),
+        6 => sum(&begin_expiration(s).state, total),
+        7 => sum(&commit_replacement(s).state, total),
+        8 => sum(&acknowledge_defunct(s).state, total),
+        _ => sum(&expire_defunct(s).state, total),
     }
 }
 
 fn answered(s: LockState, what: u8) -> u64 {
-    called(s, what, |number, _| number)
+    match what {
+        2 => numbers::of_answer(insert_active(s).told),
+        3 => numbers::of_answer(insert_vehicle(s).told),
+        4 => numbers::of_renewal(renew(s).told),
+        5 => numbers::of_deletion(delete(s).told.answer),
+        6 => numbers::of_expiration(begin_expiration(s).told.answer),
+        7 => numbers::of_answer(commit_replacement(s).told.answer),
+        8 => numbers::of_acknowledgement(acknowledge_defunct(s).told),
+        _ => numbers::of_expiry(expire_defunct(s).told.answer),
+    }
 }
 
 // 0 is the loop alone, 1 the test, the others are the operations.
@@ -158,7 +140,7 @@ fn one(s: LockState, what: u8, total: u64) -> u64 {
     match what {
         0 => sum(&s, total),
         1 => tested(s, total),
-        _ => called(s, what, |_, left| sum(left, total)),
+        _ => changed(s, what, total),
     }
 }
 
