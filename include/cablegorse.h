@@ -5,7 +5,7 @@
  *     cc -Iinclude host.c target/staticlib/libcablegorse.a -o host      examples/follow.c is such a host
  *
  * Nothing is kept between calls: a call takes an image (the whole state as bytes) and gives the next one. The library
- * reads no clock, opens nothing, allocates nothing, starts no thread. A call needs up to 592 KB of stack: give its thread
+ * reads no clock, opens nothing, allocates nothing, starts no thread. A call needs up to 576 KB of stack: give its thread
  * 1 MB. Any bytes and numbers get an answer. docs/INTEGRATION.md says what a host owns and what it does on each refusal.
  *
  * Slices. Two arguments, a pointer to the first byte and the length in bytes; of a list of ids a pointer to the first
