@@ -315,6 +315,9 @@ module _ (ws : List ℕ) (l : List ActiveLock) (p : length l ≤ 64) (out : Spli
       ap (λ (y : Split ℕ). parts_in l (halves_of y)) q ∙ ap (parts_in l) (halves_back (roots_halves ws l))
       ∙ all_in l (filter (is_listed ws) l) (start_halves (length l)) ∙ ap (cut_all (filter (is_listed ws) l)) (start_in l)
 
+  pub roots_split : (x : Split ActiveLock) → x ≡ split_of (parts_in l (halves_of out)) → x ≡ split_of (roots_parts ws l)
+  roots_split x k = k ∙ ap split_of roots_told
+
 -- ---- how many there are in all
 abbrev part_size : Parts → ℕ
 part_size m = length m.kept + length m.gone

@@ -9,7 +9,8 @@ ghost use Rattle.rules.specs.Code.{keyed};
 use ids::LockId;
 use rules::rows::Keyed;
 
-// The place of an id in a list that ascends. rules has the same: of another list it promises nothing, so neither is public.
+// The place of an id in a list that ascends, by halving. rules has the same, `searched`: of another list it promises nothing, so
+// neither is public.
 pub(crate) fn place<T: Keyed>(rows: &[T], id: LockId) -> Option<usize>
     ensures { ascending T.row_key rows.now ≡ true → result ≡ position (keyed T.row_key (key id)) rows.now }
 {

@@ -262,18 +262,18 @@ module _ (m : Model) where
         (all_and (λ a. child_under (Some v) a and child_owned v a) (child_inside v) m.active ∙ ap (λ (b : Bool). b and all (child_inside v) m.active) (all_and (child_under (Some v)) (child_owned v) m.active))
 
     -- ---- the lowest that is broken, by the rules
-    broken_two : rule2 m ≡ false → 2 ≡ lowest_from 2 (active_rules m)
+    pub broken_two : rule2 m ≡ false → 2 ≡ lowest_from 2 (active_rules m)
     broken_two r = sym (stop_low 2 (rule2 m) (from3 m) r)
 
     module _ (r2 : rule2 m ≡ true) where
       from_two : lowest_from 2 (active_rules m) ≡ lowest_from 3 (from3 m)
       from_two = next_low 2 (rule2 m) (from3 m) r2
 
-      broken_three : rule3 m ≡ false → 3 ≡ lowest_from 2 (active_rules m)
+      pub broken_three : rule3 m ≡ false → 3 ≡ lowest_from 2 (active_rules m)
       broken_three r = sym (from_two ∙ stop_low 3 (rule3 m) (from4 m) r)
 
       module _ (o : Option ActiveLock) (e : the_vehicle ≡ o) where
-        broken_four : list_all (child_under o) m.active ≡ false → rule3 m ≡ true → 4 ≡ lowest_from 2 (active_rules m)
+        pub broken_four : list_all (child_under o) m.active ≡ false → rule3 m ≡ true → 4 ≡ lowest_from 2 (active_rules m)
         broken_four u r3 = sym (from_two ∙ next_low 3 (rule3 m) (from4 m) r3 ∙ stop_low 4 (rule4 m) (from5 m) (→no (rule4 m) (λ r. against u (under_yes o e r2 r3 r))))
 
         module _ (u : list_all (child_under o) m.active ≡ true) where
@@ -288,18 +288,18 @@ module _ (m : Model) where
           from_four : lowest_from 2 (active_rules m) ≡ lowest_from 5 (from5 m)
           from_four = from_two ∙ next_low 3 (rule3 m) (from4 m) three_four.0 ∙ next_low 4 (rule4 m) (from5 m) three_four.1
 
-          broken_five : rule5 m ≡ false → 5 ≡ lowest_from 2 (active_rules m)
+          pub broken_five : rule5 m ≡ false → 5 ≡ lowest_from 2 (active_rules m)
           broken_five r = sym (from_four ∙ stop_low 5 (rule5 m) (from6 m) r)
 
           module _ (r5 : rule5 m ≡ true) where
-            broken_six : rule6 m ≡ false → 6 ≡ lowest_from 2 (active_rules m)
+            pub broken_six : rule6 m ≡ false → 6 ≡ lowest_from 2 (active_rules m)
             broken_six r = sym (from_four ∙ next_low 5 (rule5 m) (from6 m) r5 ∙ stop_low 6 (rule6 m) (from7 m) r)
 
             module _ (r6 : rule6 m ≡ true) where
               from_six : lowest_from 2 (active_rules m) ≡ lowest_from 7 (from7 m)
               from_six = from_four ∙ next_low 5 (rule5 m) (from6 m) r5 ∙ next_low 6 (rule6 m) (from7 m) r6
 
-              broken_seven : rule7 m ≡ false → 7 ≡ lowest_from 2 (active_rules m)
+              pub broken_seven : rule7 m ≡ false → 7 ≡ lowest_from 2 (active_rules m)
               broken_seven r = sym (from_six ∙ stop_low 7 (rule7 m) (from8 m) r)
 
               from_seven : rule7 m ≡ true → lowest_from 2 (active_rules m) ≡ lowest_from 8 (from8 m)
@@ -319,10 +319,10 @@ module _ (m : Model) where
           from_seven (Some v) f u (five_law v f u ∙ all_std (child_owned v) m.active ∙ and_r _ _ w1) (six_law v f u ∙ all_std (child_inside v) m.active ∙ and_r _ _ w2) (and_r _ _ w)
 
       module _ (o : Option ActiveLock) (e : the_vehicle ≡ o) (f : list_all (child_fits o) m.active ≡ true) where
-        broken_eight : rule8 m ≡ false → 8 ≡ lowest_from 2 (active_rules m)
+        pub broken_eight : rule8 m ≡ false → 8 ≡ lowest_from 2 (active_rules m)
         broken_eight r = sym (from_fit o e f ∙ stop_low 8 (rule8 m) [] r)
 
-        broken_none : rule8 m ≡ true → 0 ≡ lowest_from 2 (active_rules m)
+        pub broken_none : rule8 m ≡ true → 0 ≡ lowest_from 2 (active_rules m)
         broken_none r = sym (from_fit o e f ∙ next_low 8 (rule8 m) [] r)
 
     -- ---- and by the code's tests, each after those before it
@@ -375,6 +375,10 @@ module _ (m : Model) where
 
           pub low_none : all_below (length m.active) (clear_at m.active) ≡ true → 0 ≡ lowest_from 2 (active_rules m)
           low_none t = broken_none two_yes o e f (eight_law ∙ t)
+
+    -- rules 3 to 7 at once, by rule 2
+    pub broken_unfit : rule2 m ≡ true → (o : Option ActiveLock) → the_vehicle ≡ o → list_all (child_fits o) m.active ≡ false → lowest_parent m.active o ≡ lowest_from 2 (active_rules m)
+    broken_unfit r2 = low_unfit (sym (two_law s) ∙ r2)
 
 -- what is named is a rule
 pub parent_named : (l : List ActiveLock) (o : Option ActiveLock) → lowest_parent l o ≡ 0 → ⊥

@@ -52,7 +52,7 @@ impl<'a> Places<'a> {
         if ids::same(self.entries[p - 1].lock.id, id) {
             return Some(p - 1);
         }
-        rows::place(self.entries, id)
+        rows::searched(self.entries, id)
     }
 }
 

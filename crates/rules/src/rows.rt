@@ -103,9 +103,9 @@ pub(crate) fn rising<T: Keyed>(rows: &[T]) -> bool
     rows.is_sorted_by(|a, b| ids::less(a.id(), b.id()))
 }
 
-// The place of an id in a list that ascends. Of another list it promises nothing, so it is the crate's own: operations has one
-// too (docs/DECISIONS.md).
-pub(crate) fn place<T: Keyed>(rows: &[T], id: LockId) -> Option<usize>
+// The place of an id in a list that ascends, by halving. Of another list it promises nothing, so it is the crate's own: operations
+// has one too (docs/DECISIONS.md).
+pub(crate) fn searched<T: Keyed>(rows: &[T], id: LockId) -> Option<usize>
     ensures { ascending T.row_key rows.now ≡ true → result ≡ position (keyed T.row_key (key id)) rows.now }
 {
     let k = rows.partition_point(|x| ids::less(x.id(), id));
@@ -115,4 +115,44 @@ pub(crate) fn place<T: Keyed>(rows: &[T], id: LockId) -> Option<usize>
         }
     }
     None
+}
+
+// The place of the first that has the id, in any list: whoever asks need not know that it ascends.
+pub fn place<T: Keyed>(rows: &[T], id: LockId) -> Option<usize>
+    ensures { result ≡ position (keyed T.row_key (key id)) rows.now }
+{
+    if rising(rows) {
+        return searched(rows, id);
+    }
+    rows.iter().position(|x| ids::same(x.id(), id))
+}
+
+#[cfg(test)]
+mod tests {
+    use super::*;
+    use state::blank_defunct;
+
+    fn entry(lo: u64) -> DefunctLock {
+        let mut entry = blank_defunct();
+        entry.lock.id.lo = lo;
+        entry
+    }
+
+    #[test]
+    fn the_first_with_the_id(rt: HostRuntime) {
+        let ascending = [entry(1), entry(3), entry(5)];
+        let other = [entry(5), entry(3), entry(1), entry(3)];
+        for (lo, in_ascending, in_other) in [
+            (0, None, None),
+            (1, Some(0), Some(2)),
+            (3, Some(1), Some(1)),
+            (4, None, None),
+            (5, Some(2), Some(0)),
+            (6, None, None),
+        ] {
+            let id = LockId { hi: 0, lo };
+            assert_eq!(rt; place(&ascending, id), in_ascending, "of {lo}");
+            assert_eq!(rt; place(&other, id), in_other, "of {lo}");
+        }
+    }
 }
