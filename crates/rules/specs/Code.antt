@@ -1,5 +1,5 @@
 -- What only the contracts of the crate's own functions name: a reader of the rules need not believe or read any of it. The
--- public contract is `broken_rule` (Rules.antt) alone, and the proofs join the two.
+-- public contracts are `broken_rule` (Rules.antt) and that of `rows::place` (Rows.antt), and the proofs join them with these.
 -- Places in a list that ascends, steps from place to place, and the tests of rules 2 to 8 as the code makes them.
 use Rattle.std.specs.Prelude.{◌≡◌, Bool, true, false, cond, List, [], ◌∷◌, ◌⊎◌, ℕ, suc, ◌+◌, ◌*◌, ◌/◌, ◌%◌, ◌^◌, ◌≤◌, ◌<◌, eqb, length, get_or, take}
 use Rattle.std.specs.Prelude.{Option, None, Some, not, ◌&&◌, ◌||◌}
@@ -16,6 +16,7 @@ use Rattle.state.specs.declared.ActiveLock.{ActiveLock}
 use Rattle.state.specs.declared.DefunctLock.{DefunctLock}
 use Rattle.state.specs.Locks.{dkey, is_vehicle, scope_code, blank_active, blank_defunct}
 use Rattle.state.specs.Model.{Model}
+pub use Rattle.rules.specs.Rows.{keyed}
 use Rattle.rules.specs.declared.shapes.Dirt.{Dirt}
 use Rattle.rules.specs.Rules.{clash, rule2, rule3, rule4, rule5, rule6, rule7, rule8}
 
@@ -26,10 +27,6 @@ clean d = eqb d.even 0 and eqb d.odd 0 and eqb d.rest 0 and non d.flag
 
 abbrev pub spotless : Dirt
 spotless = record { even = 0; odd = 0; rest = 0; flag = false }
-
--- ---- a list of rows, each with a key
-abbrev pub keyed : {A : Type 0} → (A → ℕ) → ℕ → A → Bool
-keyed f k x = eqb (f x) k
 
 -- ---- the two lists without their state: what rules 1 to 9 are of
 abbrev pub lists : List ActiveLock → List DefunctLock → Model

@@ -7,7 +7,8 @@ ghost use Rattle.lists.specs.Lists.{all, ascending};
 ghost use Rattle.ids.specs.Order.{key};
 ghost use Rattle.state.specs.Locks.{akey, dkey};
 ghost use Rattle.rules.specs.Rules.{is_blank_a, is_blank_d, neat_a, neat_d};
-ghost use Rattle.rules.specs.Code.{clean, keyed};
+ghost use Rattle.rules.specs.Code.{clean};
+ghost use Rattle.rules.specs.Rows.{keyed};
 
 use crate::shapes;
 use crate::shapes::Dirt;
