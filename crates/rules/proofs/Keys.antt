@@ -16,7 +16,7 @@ use lib.Seq.{take-length, get_or-take, length-take-le}
 use borrow.Author.Tests.{lt-ltb, ltb-true, ltb-false, le-ltb, eq-eqb, ne_eqb}
 use Rattle.std.specs.Prelude.{None, Some, position}
 use Rattle.std.specs.List.{IsAllAdjacentAnswer, position_or_len}
-use Rattle.std.specs.List.Sorted.{IsPartitionedBy}
+use Rattle.std.specs.List.Sorted.{IsPartitionedBy, IsPartitionPoint}
 use Rattle.lists.specs.Tests.{◌and◌}
 use Rattle.lists.specs.Lists.{all, Mem, ascending}
 use Rattle.lists.specs.Below.{all_below}
@@ -96,3 +96,14 @@ module _ {A : Type 0} where
     | yes e ↦ ap (λ (m : ℕ). ltb (k (get_or l m d)) v) e ∙ t
     | no e ↦ lt-ltb _ _ (omega (arith, ascending_at k 0 l d s i j (omega arith) g, ltb-true _ _ t))
   ]
+
+  -- ---- the search by halving: before i the keys are below v, from there on they aren't
+  module _ (k : A → ℕ) (v : ℕ) (l : List A) (i : ℕ) (w : IsPartitionPoint (λ x. ltb (k x) v ≡ true) (λ x. ltb (k x) v ≡ false) l i) where
+    pub halved_some : (d : A) → i < length l → k (get_or l i d) ≡ v → Some i ≡ position (keyed k v) l
+    halved_some d h e = place_some k v l i d h (λ j g. ltb-true _ _ (w.0 j d (omega arith) g)) e
+
+    pub halved_none : ascending k l ≡ true → (d : A) → i < length l → (k (get_or l i d) ≡ v → ⊥) → None ≡ position (keyed k v) l
+    halved_none s d h n = place_none k v l s i d h (λ j g. ltb-true _ _ (w.0 j d (omega arith) g)) (ltb-false _ _ (w.1 i d (omega arith) h)) n
+
+    pub halved_past : length l ≤ i → None ≡ position (keyed k v) l
+    halved_past h = place_past k v l i h (λ j d g. ltb-true _ _ (w.0 j d (omega arith) g))

@@ -118,7 +118,8 @@ pub(crate) fn searched<T: Keyed>(rows: &[T], id: LockId) -> Option<usize>
     None
 }
 
-// The place of the first that has the id, in any list: whoever asks need not know that it ascends.
+// The place of the first that has the id, in any list: whoever asks need not know that it ascends. To see that takes a walk;
+// what is known to ascend is searched without it, by `searched`, which is the crate's own.
 pub fn place<T: Keyed>(rows: &[T], id: LockId) -> Option<usize>
     ensures { result ≡ position (keyed T.row_key (key id)) rows.now }
 {

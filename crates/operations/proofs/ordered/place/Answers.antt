@@ -7,7 +7,7 @@ use mathlib.Core.Bool.{true, false}
 use lib.Dec.{ltb}
 use borrow.Author.Tests.{ltb-true, ltb-false, eqb-true, eqb-false}
 use Rattle.ids.specs.Order.{key, same_id, before_id}
-use Rattle.rules.proofs.Keys.{parted, place_some, place_none, place_past}
+use Rattle.rules.proofs.Keys.{parted, halved_some, halved_none, halved_past}
 use Rattle.operations.proofs.ordered.place.Goals as goal
 use Rattle.operations.proofs.ordered.place.Goals.{After-partition_point-k}
 
@@ -20,17 +20,14 @@ parts g c s = c.partition_point-k.ensures.partitioned (λ x. ltb (g.T.Keyed.row_
 pub returns-then-same : goal.returns-then-same
 unfolding same_id
 returns-then-same g c = λ s.
-    let w = parts g (goal.at.returns-then-same g c).After-partition_point-k s in
-    place_some g.T.Keyed.row_key (key c.args.id) c.args.rows.now c.partition_point-k.result c.index-rows-k.result c.if-k-rows.true (λ j h. ltb-true _ _ (w.0 j c.index-rows-k.result (omega arith) h)) (ap g.T.Keyed.row_key (sym c.index-rows-k.is) ∙ sym c.id.ensures ∙ eqb-true _ _ (sym c.same.ensures ∙ c.if-same.true))
+    halved_some _ _ _ _ (parts g (goal.at.returns-then-same g c).After-partition_point-k s) _ c.if-k-rows.true
+    (ap g.T.Keyed.row_key (sym c.index-rows-k.is) ∙ sym c.id.ensures ∙ eqb-true _ _ (sym c.same.ensures ∙ c.if-same.true))
 
 pub returns-else-same : goal.returns-else-same
 unfolding same_id
 returns-else-same g c = λ s.
-    let w = parts g (goal.at.returns-else-same g c).After-partition_point-k s in
-    let e = eqb-false _ _ (sym c.same.ensures ∙ c.if-same.false) in
-    place_none g.T.Keyed.row_key (key c.args.id) c.args.rows.now s c.partition_point-k.result c.index-rows-k.result (omega arith) (λ j h. ltb-true _ _ (w.0 j c.index-rows-k.result (omega arith) h)) (ltb-false _ _ (w.1 c.partition_point-k.result c.index-rows-k.result (omega arith) c.if-k-rows.true)) (λ q. e (c.id.ensures ∙ ap g.T.Keyed.row_key c.index-rows-k.is ∙ q))
+    halved_none _ _ _ _ (parts g (goal.at.returns-else-same g c).After-partition_point-k s) s _ c.if-k-rows.true
+    (λ q. eqb-false _ _ (sym c.same.ensures ∙ c.if-same.false) (c.id.ensures ∙ ap g.T.Keyed.row_key c.index-rows-k.is ∙ q))
 
 pub returns-else-k-rows : goal.returns-else-k-rows
-returns-else-k-rows g c = λ s.
-    let w = parts g (goal.at.returns-else-k-rows g c).After-partition_point-k s in
-    place_past g.T.Keyed.row_key (key c.args.id) c.args.rows.now c.partition_point-k.result c.if-k-rows.false (λ j d h. ltb-true _ _ (w.0 j d (omega arith) h))
+returns-else-k-rows g c = λ s. halved_past _ _ _ _ (parts g (goal.at.returns-else-k-rows g c).After-partition_point-k s) c.if-k-rows.false
