@@ -1,11 +1,10 @@
 use Rattle.std.proofs.Common.{◌≡◌, sym, ap, ◌∙◌, rules}
-use native.Mathlib.Omega.{arith}
 use Rattle.std.proofs.lemmas.Fn.{always_returns_same}
 use Rattle.std.specs.List.Sorted.{IsPartitionPoint}
 use Rattle.lists.specs.Lists.{ascending}
 use mathlib.Core.Bool.{true, false}
 use lib.Dec.{ltb}
-use borrow.Author.Tests.{ltb-true, ltb-false, eqb-true, eqb-false}
+use borrow.Author.Tests.{eqb-true, eqb-false}
 use Rattle.ids.specs.Order.{key, same_id, before_id}
 use Rattle.rules.proofs.Keys.{parted, halved_some, halved_none, halved_past}
 use Rattle.operations.proofs.ordered.place.Goals as goal
